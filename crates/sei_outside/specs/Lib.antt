@@ -1,0 +1,7 @@
+pub mod Bytes
+pub mod Faults
+pub mod Memory
+pub mod Plan
+pub mod Reads
+pub mod StdEdge
+pub mod Writes

@@ -1,0 +1,19 @@
+//! The outside: where bytes come from and where they go. Programs read from a `Source` and write
+//! to a `Sink`; a test hands in `MemorySource` and `MemorySink`, whose faults are planned, and a
+//! program hands in `StdSource` and `StdSink`.
+#![tactic(auto)]
+
+mod calls;
+mod memory;
+mod sink;
+mod source;
+mod std_edge;
+#[cfg(test)]
+mod tests;
+mod whole;
+
+pub use memory::{MemorySink, MemorySource};
+pub use sink::{Sink, Wrote};
+pub use source::{Read, Source};
+pub use std_edge::{StdSink, StdSource};
+pub use whole::{Unread, read_all};
