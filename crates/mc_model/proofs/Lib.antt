@@ -1,0 +1,4 @@
+pub mod PlaceLaws
+pub mod MapLaws
+pub mod WithinLaws
+pub mod Worked

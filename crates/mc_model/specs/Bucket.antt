@@ -1,0 +1,60 @@
+-- Items and buckets. What an item holds is what protocol.txt of memcached keeps at a key.
+use Rattle.std.specs.Prelude.{◌≡◌, ℕ, Bool, ◌||◌, ◌==◌, nat_lt, max, List, [], ◌∷◌, filter, Option, Some, None, if◌then◌else◌}
+use Rattle.std.specs.Str.{bytes_eq}
+
+-- the expiry is the second since the start of 1970 from which the item is gone, or 0 for never
+pub record Item : Type 0 where
+  pub flags : ℕ
+  pub expiry : ℕ
+  pub unique : ℕ
+  pub value : List ℕ
+
+-- a map from keys to items: each key stands once
+abbrev pub Entries : Type 0
+Entries = List (List ℕ × Item)
+
+-- the moment is the latest second that the bucket saw, the counter the last cas unique that it gave
+pub record Bucket : Type 0 where
+  pub items : Entries
+  pub moment : ℕ
+  pub counter : ℕ
+
+abbrev pub empty_bucket : Bucket
+empty_bucket = record { items = []; moment = 0; counter = 0 }
+
+abbrev pub lookup : List ℕ → Entries → Option Item
+lookup key [] = None
+lookup key (e ∷ es) = if bytes_eq key e.0 then Some e.1 else lookup key es
+
+-- the item takes the key's place, or stands behind all
+abbrev pub put : List ℕ → Item → Entries → Entries
+put key x [] = (key, x) ∷ []
+put key x (e ∷ es) = if bytes_eq key e.0 then (key, x) ∷ es else e ∷ put key x es
+
+abbrev pub without : List ℕ → Entries → Entries
+without key [] = []
+without key (e ∷ es) = if bytes_eq key e.0 then es else e ∷ without key es
+
+abbrev pub is_live : ℕ → Item → Bool
+is_live moment x = x.expiry == 0 || nat_lt moment x.expiry
+
+abbrev pub live_entries : ℕ → Entries → Entries
+live_entries moment es = filter (λ e. is_live moment e.1) es
+
+-- what has expired leaves
+abbrev pub purged : Bucket → Bucket
+purged b = record b { items = live_entries b.moment b.items }
+
+-- the moment never goes back, and is never 0, which would be no expiry
+abbrev pub arrived : ℕ → Bucket → Bucket
+arrived now b = purged (record b { moment = max 1 (max b.moment now) })
+
+-- each key stands once
+abbrev pub IsMap : Entries → Type 0
+IsMap [] = Unit {0}
+IsMap (e ∷ es) = (lookup e.0 es ≡ None) × IsMap es
+
+-- the item, unless it has expired
+abbrev pub if_live : ℕ → Option Item → Option Item
+if_live moment None = None
+if_live moment (Some x) = if is_live moment x then Some x else None

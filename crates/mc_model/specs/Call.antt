@@ -1,0 +1,42 @@
+-- Calls: a command on one key, on one bucket, or a fixed text.
+use Rattle.std.specs.Prelude.{◌≡◌, ℕ, ◌%◌, ◌<◌, Bool, true, false, List, []}
+use Rattle.sei_code.specs.Codes.{fnv64}
+use Rattle.mc_model.specs.declared.call.Verb.{Verb}
+use Rattle.mc_model.specs.declared.call.Verb.TheVariants.{Flush, Fixed}
+
+-- fields that its command has not are 0, false or empty; `last` and `noreply` are its marks, `text` is the number of a fixed text
+pub record Call : Type 0 where
+  pub verb : Verb
+  pub key : List ℕ
+  pub flags : ℕ
+  pub negative : Bool
+  pub exptime : ℕ
+  pub unique : ℕ
+  pub value : ℕ
+  pub block : List ℕ
+  pub last : Bool
+  pub noreply : Bool
+  pub text : ℕ
+
+-- a call with nothing but its command
+abbrev pub blank : Verb → Call
+blank verb = record { verb = verb; key = []; flags = 0; negative = false; exptime = 0; unique = 0; value = 0; block = []; last = true; noreply = false; text = 0 }
+
+-- a call and the bucket that it is for
+pub record Placed : Type 0 where
+  pub bucket : ℕ
+  pub call : Call
+
+-- a key belongs to the bucket of its hash
+abbrev pub bucket_of_key : ℕ → List ℕ → ℕ
+bucket_of_key buckets key = fnv64 key % buckets
+
+-- the bucket of a command: that of its key, any for a call on one bucket, the first one for a text
+abbrev pub IsBucketOf : ℕ → Verb → List ℕ → ℕ → Type 0
+IsBucketOf buckets Flush key b = b < buckets
+IsBucketOf buckets Fixed key b = b ≡ 0
+IsBucketOf buckets verb key b = b ≡ bucket_of_key buckets key
+
+-- a call stands at its own bucket, of so many
+abbrev pub IsPlaced : ℕ → Placed → Type 0
+IsPlaced buckets p = IsBucketOf buckets p.call.verb p.call.key p.bucket

@@ -1,0 +1,11 @@
+pub mod Texts
+pub mod Numbers
+pub mod Bucket
+pub mod Call
+pub mod Items
+pub mod Replies
+pub mod Outcome
+pub mod Answer
+pub mod Server
+pub mod Within
+pub mod Views
