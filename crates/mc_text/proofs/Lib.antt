@@ -1,0 +1,6 @@
+pub mod WordLaws
+pub mod FrontLaws
+pub mod CallLaws
+pub mod FitLaws
+pub mod StreamLaws
+pub mod Worked

@@ -1,0 +1,31 @@
+-- The fields of a line.
+use Rattle.std.specs.Prelude.{ℕ, ◌+◌, ◌-◌, ◌^◌, Bool, true, false, not, ◌&&◌, ◌||◌, ◌==◌, nat_le, nat_lt, List, [], ◌∷◌, Option, Some, None, length, codes, if◌then◌else◌}
+use Rattle.std.specs.List.{list_all}
+use Rattle.std.specs.Str.{bytes_eq}
+use Rattle.mc_model.specs.Numbers.{number_upto}
+use Rattle.mc_text.specs.Bounds.{longest_key}
+use Rattle.mc_text.specs.Words.{arg}
+
+-- no NUL, LF, CR or space
+abbrev pub is_key_byte : ℕ → Bool
+is_key_byte b = not (b == 0 || b == 10 || b == 13 || b == 32)
+
+abbrev pub is_key : List ℕ → Bool
+is_key w = nat_lt 0 (length w) && nat_le (length w) longest_key && list_all is_key_byte w
+
+-- a `-` before the number 0 makes nothing negative
+abbrev pub signed : Bool → Option ℕ → Option (Bool × ℕ)
+signed negative None = None
+signed negative (Some n) = Some (negative && not (n == 0), n)
+
+-- whether it is negative, and its number; 45 is a `-`
+abbrev pub exptime_of : List ℕ → Option (Bool × ℕ)
+exptime_of [] = None
+exptime_of (b ∷ bs) = if b == 45 then signed true (number_upto (2 ^ 63 - 1) bs) else signed false (number_upto (2 ^ 63 - 1) (b ∷ bs))
+
+abbrev pub is_noreply : List ℕ → Bool
+is_noreply w = bytes_eq w (codes "noreply")
+
+-- n words, or one more that is `noreply`
+abbrev pub has_words : List (List ℕ) → ℕ → Bool
+has_words ws n = (length ws == n) || ((length ws == n + 1) && is_noreply (arg ws n))

@@ -1,0 +1,15 @@
+pub mod Bounds
+pub mod Numbered
+pub mod Words
+pub mod Fields
+pub mod Commands
+pub mod Meaning
+pub mod Lines
+pub mod Spells
+pub mod Front
+pub mod Reads
+pub mod Stream
+pub mod Fits
+pub mod Parsed
+pub mod Reading
+pub mod Walk

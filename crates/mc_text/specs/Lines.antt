@@ -1,0 +1,87 @@
+-- What the words of a line ask for. Nested tests are the refusals in their order.
+use Rattle.std.specs.Prelude.{ℕ, ◌-◌, ◌^◌, Bool, true, false, ◌==◌, nat_le, nat_lt, List, Option, Some, None, length, take, drop, if◌then◌else◌}
+use Rattle.std.specs.List.{list_all}
+use Rattle.mc_model.specs.declared.call.Verb.{Verb}
+use Rattle.mc_model.specs.declared.call.Verb.TheVariants.{Fixed}
+use Rattle.mc_model.specs.Call.{Call, blank}
+use Rattle.mc_model.specs.Numbers.{number_upto}
+use Rattle.mc_text.specs.Bounds.{longest_block}
+use Rattle.mc_text.specs.Numbered.{okay, error, version_text, bad_line_format, object_too_large}
+use Rattle.mc_text.specs.Words.{arg}
+use Rattle.mc_text.specs.declared.commands.Command.{Command}
+use Rattle.mc_text.specs.declared.commands.Form.{Form}
+use Rattle.mc_text.specs.declared.commands.Form.TheVariants as forms
+use Rattle.mc_text.specs.Fields.{is_key, exptime_of, has_words}
+use Rattle.mc_text.specs.Commands.{command_of}
+use Rattle.mc_text.specs.Meaning.{Meaning, Quit, One, Each}
+
+-- the request ends with the line, or a block of so many bytes belongs to its call at these keys
+pub data LineMeaning : Type 0 where
+  Ends : (request : Meaning) → LineMeaning
+  Wants : (call : Call) (keys : List (List ℕ)) (bytes : ℕ) → LineMeaning
+
+-- a call that is answered by a text
+abbrev pub fixed : ℕ → Bool → Call
+fixed text noreply = record (blank Fixed) { text = text; noreply = noreply }
+
+abbrev pub refused : ℕ → LineMeaning
+refused text = Ends (One (fixed text false) false)
+
+-- a refusal, unless the test is passed
+abbrev pub having : Bool → ℕ → LineMeaning → LineMeaning
+having good text meaning = if good then meaning else refused text
+
+-- a field, or a refusal where it has not its form
+abbrev pub field : {A : Type 0} → ℕ → Option A → (A → LineMeaning) → LineMeaning
+field text None f = refused text
+field text (Some x) f = f x
+
+-- the count words from first on
+abbrev pub some_words : List (List ℕ) → ℕ → ℕ → List (List ℕ)
+some_words ws first count = take count (drop first ws)
+
+-- a block that nobody could keep is not read
+abbrev pub block_for : Call → List (List ℕ) → ℕ → LineMeaning
+block_for c keys bytes = if nat_le bytes longest_block then Wants c keys bytes else Ends (One (fixed object_too_large false) true)
+
+-- <command> <key> <flags> <exptime> <bytes> [noreply]
+unfoldable pub storage : Verb → List (List ℕ) → LineMeaning
+storage verb ws =
+    having (has_words ws 5) error (having (is_key (arg ws 1)) bad_line_format (
+    field bad_line_format (number_upto (2 ^ 32 - 1) (arg ws 2)) (λ flags.
+    field bad_line_format (exptime_of (arg ws 3)) (λ e.
+    field bad_line_format (number_upto (2 ^ 32 - 1) (arg ws 4)) (λ bytes.
+    block_for (record (blank verb) { flags = flags; negative = e.0; exptime = e.1; noreply = nat_lt 5 (length ws) }) (some_words ws 1 1) bytes)))))
+
+-- <command> <key>+
+unfoldable pub retrieval : Verb → List (List ℕ) → LineMeaning
+retrieval verb ws =
+    having (nat_lt 1 (length ws)) error (having (list_all is_key (drop 1 ws)) bad_line_format (
+    Ends (Each (blank verb) (some_words ws 1 (length ws - 1)))))
+
+-- version
+unfoldable pub version : List (List ℕ) → LineMeaning
+version ws = having (length ws == 1) error (Ends (One (fixed version_text false) false))
+
+-- verbosity <n> [noreply]
+unfoldable pub verbosity : List (List ℕ) → LineMeaning
+verbosity ws = having (has_words ws 2) error (field bad_line_format (number_upto (2 ^ 32 - 1) (arg ws 1)) (λ n. Ends (One (fixed okay (nat_lt 2 (length ws))) false)))
+
+-- quit
+unfoldable pub quit : List (List ℕ) → LineMeaning
+quit ws = having (length ws == 1) error (Ends Quit)
+
+abbrev pub by_form : Form → Verb → List (List ℕ) → LineMeaning
+by_form forms.Storage verb ws = storage verb ws
+by_form forms.Retrieval verb ws = retrieval verb ws
+by_form forms.Version verb ws = version ws
+by_form forms.Verbosity verb ws = verbosity ws
+by_form forms.Quit verb ws = quit ws
+
+abbrev pub by_command : Option Command → List (List ℕ) → LineMeaning
+by_command None ws = refused error
+by_command (Some c) ws = by_form c.form c.verb ws
+
+-- by the first word; no word is no command
+unfoldable pub words_say : List (List ℕ) → LineMeaning
+words_say ws = by_command (command_of (arg ws 0)) ws

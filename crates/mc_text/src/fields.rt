@@ -1,0 +1,90 @@
+ghost use Rattle.std.specs.Prelude.{◌≡◌, ◌<◌, ◌≤◌, length, drop};
+ghost use Rattle.std.specs.List.{list_all};
+ghost use Rattle.mc_text.specs.Words.{words, arg};
+ghost use Rattle.mc_text.specs.Fields.{is_key_byte, is_key, exptime_of, is_noreply, has_words};
+
+use crate::commands::is;
+use crate::limits::LONGEST_KEY;
+use crate::words::{count, next_word, word};
+use mc_model::number_upto;
+
+/// The greatest number of seconds in an exptime.
+const LARGEST_EXPTIME: u64 = 0x7fff_ffff_ffff_ffff;
+
+/// The bytes of the nth word, none if there is none.
+pub fn word_bytes(line: &[u8], nth: usize) -> &[u8]
+    ensures { result.now ≡ arg (words line.now) nth }
+{
+    let span = word(line, nth);
+    &line[span.from..span.to]
+}
+
+fn is_key_byte(b: u8) -> bool
+    ensures { result ≡ is_key_byte b }
+{
+    !(b == 0 || b == b'\n' || b == b'\r' || b == b' ')
+}
+
+fn all_key_bytes(word: &[u8]) -> bool
+    ensures { result ≡ list_all is_key_byte word.now }
+{
+    for b in word {
+        if !is_key_byte(*b) {
+            return false;
+        }
+    }
+    true
+}
+
+pub fn is_key(word: &[u8]) -> bool
+    ensures { result ≡ is_key word.now }
+{
+    0 < word.len() && word.len() <= LONGEST_KEY && all_key_bytes(word)
+}
+
+/// Whether an exptime is negative, and its number.
+pub fn exptime_of(word: &[u8]) -> Option<(bool, u64)>
+    ensures { result ≡ exptime_of word.now }
+{
+    if word.is_empty() {
+        return None;
+    }
+    if word[0] == b'-' {
+        let n = number_upto(LARGEST_EXPTIME, &word[1..])?;
+        Some((n != 0, n))
+    } else {
+        let n = number_upto(LARGEST_EXPTIME, word)?;
+        Some((false, n))
+    }
+}
+
+fn is_noreply(word: &[u8]) -> bool
+    ensures { result ≡ is_noreply word.now }
+{
+    is(word, b"noreply")
+}
+
+/// Whether a line has `n` words, or one more that is `noreply`.
+pub fn has_words(line: &[u8], n: usize) -> bool
+    requires { n < 16 }
+    ensures { result ≡ has_words (words line.now) n }
+{
+    let all = count(line);
+    all == n || (all == n + 1 && is_noreply(word_bytes(line, n)))
+}
+
+/// Whether all words at a place or behind it are keys.
+#[tactic(auto, using(crate::proofs::WordLaws::word_steps))]
+pub fn all_keys(line: &[u8], from: usize) -> bool
+    requires { from ≤ length line.now }
+    ensures { result ≡ list_all is_key (words (drop from line.now)) }
+{
+    let mut at = from;
+    while let Some(word) = next_word(line, at) {
+        if !is_key(&line[word.from..word.to]) {
+            return false;
+        }
+        at = word.to;
+    }
+    true
+}

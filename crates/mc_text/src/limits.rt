@@ -1,0 +1,16 @@
+/// The bytes of a line with its LF.
+pub const LONGEST_LINE: usize = 65_536;
+
+/// The bytes of a key.
+pub const LONGEST_KEY: usize = 250;
+
+/// The bytes of a block without its CR LF. A larger one is refused before it is read.
+pub const LONGEST_BLOCK: u64 = 1_048_576;
+
+/// What a server offers: how many buckets it has, at least one, and of how many bytes a value is at
+/// most.
+#[derive(Clone, Copy, Debug, PartialEq, Eq)]
+pub struct Limits {
+    pub buckets: u64,
+    pub value_bytes: u64,
+}

@@ -1,0 +1,185 @@
+//! One function for each form of line. Each tests the refusals in their order.
+
+ghost use Rattle.std.specs.Prelude.{◌≡◌, ◌<◌, ◌≤◌, ◌^◌, length, []};
+ghost use Rattle.mc_model.specs.Views.{call_with};
+ghost use Rattle.mc_text.specs.Words.{words};
+ghost use Rattle.mc_text.specs.Numbered.{text_count};
+ghost use Rattle.mc_text.specs.Meaning.{One};
+ghost use Rattle.mc_text.specs.Lines.{Ends, fixed, refused, block_for, some_words, storage, retrieval, version, verbosity, quit, words_say};
+ghost use Rattle.mc_text.specs.Fits.{HasKey};
+ghost use Rattle.mc_text.specs.Parsed.{line_meaning_of, IsParsedOf};
+
+use crate::commands::{Form, command_of};
+use crate::fields::{all_keys, exptime_of, has_words, is_key, word_bytes};
+use crate::limits::LONGEST_BLOCK;
+use crate::parsed::{Kind, ParsedLine, Template, blank};
+use crate::texts::{BAD_LINE_FORMAT, ERROR, OBJECT_TOO_LARGE, OKAY, VERSION};
+use crate::words::{behind_words, count};
+use mc_model::{CallSpan, Verb, number_upto};
+
+/// The greatest number in flags, in the size of a block and in a verbosity.
+const LARGEST_FIELD: u64 = 0xffff_ffff;
+
+/// A request that is answered by a text.
+fn fixed(line: &[u8], text: u8, noreply: bool, closing: bool) -> ParsedLine
+    requires { text < text_count }
+    ensures meaning { line_meaning_of (words line.now) result ≡ Ends (One (fixed text noreply) closing) }
+    ensures parsed { IsParsedOf (words line.now) result }
+{
+    let call = CallSpan {
+        text,
+        noreply,
+        ..blank(Verb::Fixed)
+    };
+    ParsedLine::Ends(Template {
+        kind: Kind::One,
+        call,
+        first: 0,
+        count: 0,
+        closing,
+    })
+}
+
+fn refused(line: &[u8], text: u8) -> ParsedLine
+    requires { text < text_count }
+    ensures meaning { line_meaning_of (words line.now) result ≡ refused text }
+    ensures parsed { IsParsedOf (words line.now) result }
+{
+    fixed(line, text, false, false)
+}
+
+/// A request at the word behind the command, with a block of so many bytes.
+fn block_for(line: &[u8], call: CallSpan, bytes: u64) -> ParsedLine
+    requires few { bytes < 2 ^ 32 }
+    requires key { 2 ≤ length (words line.now) }
+    requires verb { HasKey call.verb }
+    requires text { call.text < text_count }
+    ensures meaning { line_meaning_of (words line.now) result ≡ block_for (call_with [] [] call) (some_words (words line.now) 1 1) bytes }
+    ensures parsed { IsParsedOf (words line.now) result }
+{
+    if bytes > LONGEST_BLOCK {
+        return fixed(line, OBJECT_TOO_LARGE, false, true);
+    }
+    let template = Template {
+        kind: Kind::Each,
+        call,
+        first: 1,
+        count: 1,
+        closing: false,
+    };
+    ParsedLine::Wants(template, bytes as usize)
+}
+
+#[tactic(auto, unfolding(crate::specs::Lines::storage))]
+fn storage(line: &[u8], verb: Verb) -> ParsedLine
+    requires { HasKey verb }
+    ensures meaning { line_meaning_of (words line.now) result ≡ storage verb (words line.now) }
+    ensures parsed { IsParsedOf (words line.now) result }
+{
+    if !has_words(line, 5) {
+        return refused(line, ERROR);
+    }
+    if !is_key(word_bytes(line, 1)) {
+        return refused(line, BAD_LINE_FORMAT);
+    }
+    let Some(flags) = number_upto(LARGEST_FIELD, word_bytes(line, 2)) else {
+        return refused(line, BAD_LINE_FORMAT);
+    };
+    let Some((negative, exptime)) = exptime_of(word_bytes(line, 3)) else {
+        return refused(line, BAD_LINE_FORMAT);
+    };
+    let Some(bytes) = number_upto(LARGEST_FIELD, word_bytes(line, 4)) else {
+        return refused(line, BAD_LINE_FORMAT);
+    };
+    let call = CallSpan {
+        flags: flags as u32,
+        negative,
+        exptime,
+        noreply: 5 < count(line),
+        ..blank(verb)
+    };
+    block_for(line, call, bytes)
+}
+
+#[tactic(auto, unfolding(crate::specs::Lines::retrieval))]
+fn retrieval(line: &[u8], verb: Verb) -> ParsedLine
+    requires { HasKey verb }
+    ensures meaning { line_meaning_of (words line.now) result ≡ retrieval verb (words line.now) }
+    ensures parsed { IsParsedOf (words line.now) result }
+{
+    let all = count(line);
+    if all <= 1 {
+        return refused(line, ERROR);
+    }
+    if !all_keys(line, behind_words(line, 1)) {
+        return refused(line, BAD_LINE_FORMAT);
+    }
+    ParsedLine::Ends(Template {
+        kind: Kind::Each,
+        call: blank(verb),
+        first: 1,
+        count: all - 1,
+        closing: false,
+    })
+}
+
+#[tactic(auto, unfolding(crate::specs::Lines::version))]
+fn version(line: &[u8]) -> ParsedLine
+    ensures meaning { line_meaning_of (words line.now) result ≡ version (words line.now) }
+    ensures parsed { IsParsedOf (words line.now) result }
+{
+    if count(line) == 1 {
+        fixed(line, VERSION, false, false)
+    } else {
+        refused(line, ERROR)
+    }
+}
+
+#[tactic(auto, unfolding(crate::specs::Lines::verbosity))]
+fn verbosity(line: &[u8]) -> ParsedLine
+    ensures meaning { line_meaning_of (words line.now) result ≡ verbosity (words line.now) }
+    ensures parsed { IsParsedOf (words line.now) result }
+{
+    if !has_words(line, 2) {
+        return refused(line, ERROR);
+    }
+    let Some(_) = number_upto(LARGEST_FIELD, word_bytes(line, 1)) else {
+        return refused(line, BAD_LINE_FORMAT);
+    };
+    fixed(line, OKAY, 2 < count(line), false)
+}
+
+#[tactic(auto, unfolding(crate::specs::Lines::quit))]
+fn quit(line: &[u8]) -> ParsedLine
+    ensures meaning { line_meaning_of (words line.now) result ≡ quit (words line.now) }
+    ensures parsed { IsParsedOf (words line.now) result }
+{
+    if count(line) != 1 {
+        return refused(line, ERROR);
+    }
+    ParsedLine::Ends(Template {
+        kind: Kind::Quit,
+        call: blank(Verb::Fixed),
+        first: 0,
+        count: 0,
+        closing: false,
+    })
+}
+
+/// What a line asks for; its line end, a CR too, is not part of it.
+#[tactic(auto, unfolding(crate::specs::Lines::words_say, crate::specs::Commands::command_of))]
+pub fn parse_line(line: &[u8]) -> ParsedLine
+    ensures meaning { line_meaning_of (words line.now) result ≡ words_say (words line.now) }
+    ensures parsed { IsParsedOf (words line.now) result }
+{
+    let Some(command) = command_of(word_bytes(line, 0)) else {
+        return refused(line, ERROR);
+    };
+    match command.form {
+        Form::Storage => storage(line, command.verb),
+        Form::Retrieval => retrieval(line, command.verb),
+        Form::Version => version(line),
+        Form::Verbosity => verbosity(line),
+        Form::Quit => quit(line),
+    }
+}
