@@ -1,0 +1,48 @@
+-- The lines of a script that are left, behind those that were run.
+use Rattle.std.proofs.Common.{◌≡◌, ℕ, ◌≤◌, List, ◌∷◌, length, refl, ◌∙◌, ap, arith}
+use Rattle.sei_main.specs.declared.script.line.ScriptLine.{ScriptLine}
+use Rattle.sei_main.specs.declared.script.line.ScriptLine.TheVariants as lines
+use Rattle.sei_main.specs.declared.script.line.Context.{Context}
+use Rattle.sei_main.specs.Limits.{most_connections}
+use Rattle.sei_main.specs.Context.{empty_context, context_after}
+use Rattle.sei_main.specs.Fit.{IsFit, AreFit}
+use Rattle.sei_main.specs.State.{State, led}
+use Rattle.sei_main.specs.Becomes.{IsKnown}
+use Rattle.sei_main.proofs.Rounds.{led_length}
+
+-- lines that may be run where so many connections are open
+pub record FitBehind (opens : ℕ) (script : List ScriptLine) : Type 0 where
+  pub context : Context
+  pub opens_is : opens ≡ context.opens
+  pub few : opens ≤ most_connections
+  pub fit : AreFit context script
+
+pub fit_start : (script : List ScriptLine) → AreFit empty_context script → FitBehind 0 script
+fit_start script f = record { context = empty_context; opens_is = refl; few = omega arith; fit = f }
+
+known_by : (opens : ℕ) (x : Context) (line : ScriptLine) → opens ≡ x.opens → IsFit x line → IsKnown opens line
+known_by opens x (lines.Geometry g) e f = tt
+known_by opens x (lines.Open c) e f = tt
+known_by opens x (lines.Say c bytes) e f = omega (arith, e, f.1)
+known_by opens x lines.Drain e f = tt
+
+-- the next line speaks of a connection that is there
+pub fit_known : (opens : ℕ) (line : ScriptLine) (script : List ScriptLine) → FitBehind opens (line ∷ script) → IsKnown opens line
+fit_known opens line script f = known_by opens f.context line f.opens_is f.fit.0
+
+few_by : (opens : ℕ) (x : Context) (line : ScriptLine) → opens ≡ x.opens → opens ≤ most_connections → IsFit x line → (context_after x line).opens ≤ most_connections
+few_by opens x (lines.Geometry g) e h f = omega (arith, e, h)
+few_by opens x (lines.Open c) e h f = omega (arith, f.1, f.2)
+few_by opens x (lines.Say c bytes) e h f = omega (arith, e, h)
+few_by opens x lines.Drain e h f = omega (arith, e, h)
+
+-- and the lines behind it may be run then
+pub fit_next : (s new : State) (line : ScriptLine) (script : List ScriptLine) → new ≡ (led s line).state → FitBehind (length s.seats) (line ∷ script) → FitBehind (length new.seats) script
+fit_next s new line script e f =
+    let size : length new.seats ≡ (context_after f.context line).opens = ap (λ (x : State). length x.seats) e ∙ led_length s f.context line f.opens_is in
+    record {
+      context = context_after f.context line;
+      opens_is = size;
+      few = omega (arith, size, few_by (length s.seats) f.context line f.opens_is f.few f.fit.0);
+      fit = f.fit.1;
+    }

@@ -1,0 +1,14 @@
+use Rattle.std.proofs.Common.{◌≡◌, ◌≤◌, length}
+use Rattle.mc_text.specs.Reading.{calls_at}
+use Rattle.mc_text.specs.Walk.{IsAt, place_of}
+use Rattle.sei_main.proofs.CallsSoFar.{CallsSoFar}
+use Rattle.sei_main.proofs.world.state.answer_calls.Given as goal
+
+abbrev pub invariant-loop-nth : goal.invariant-loop-nth
+invariant-loop-nth g l = record {
+  calls : CallsSoFar l.reporter.history (g.K.Sink.written l.fn.sink) (g.K.Sink.written l.sink) l.c l.first l.nth l.messages l.fn.server l.server (calls_at l.text l.request);
+  at : IsAt l.text l.request l.cursor;
+  place : place_of l.cursor ≡ l.nth;
+  end : l.nth-end ≡ length (calls_at l.text l.request);
+  later : g.K.Sink.faults l.fn.sink ≤ g.K.Sink.faults l.sink;
+}

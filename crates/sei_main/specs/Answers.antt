@@ -1,0 +1,67 @@
+-- What a replay answers, and what it has written then.
+use Rattle.std.specs.Prelude.{◌≡◌, ℕ, Bool, false, List, ⊤, IfSome}
+use Rattle.std.specs.declared.option.Option.{Option}
+use Rattle.std.specs.Io.KnownBytes.{append_known}
+use Rattle.sei_outside.specs.Bytes.{WrotePart}
+use Rattle.sei_main.specs.Reading.{Reading, Reads, Fails, reading_of}
+use Rattle.sei_main.specs.Limits.{script_limit}
+use Rattle.sei_main.specs.declared.script.line.ScriptLine.{ScriptLine}
+use Rattle.sei_main.specs.declared.script.line.Why.{Why}
+use Rattle.sei_main.specs.Run.{run_of}
+use Rattle.sei_main.specs.Report.{report_of, refusal_text}
+use Rattle.sei_main.specs.declared.status.Status.{Status}
+use Rattle.sei_main.specs.declared.status.Status.TheVariants.{Ok, Usage, Script, Aborted, ReadFault, WriteFault, Memory, NetFault, JournalFull, JournalFault}
+
+-- how the bytes of a source read
+abbrev pub reading_in : List ℕ → Reading
+reading_in input = reading_of script_limit input
+
+-- what is to be written for a text that reads so
+abbrev pub output_of : Bool → Reading → List ℕ
+output_of history (Reads script) = report_of history (run_of script)
+output_of history (Fails line why) = refusal_text line why
+
+-- a fact of the script; a text that fails has none
+abbrev pub OnScript : Reading → (List ScriptLine → Type 0) → Type 0
+OnScript (Reads script) P = P script
+OnScript (Fails line why) P = ⊥
+
+-- a fact of the script that a source holds, where it tells its bytes
+abbrev pub OnInput : Option (List ℕ) → (List ScriptLine → Type 0) → Type 0
+OnInput left P = IfSome left (λ input. OnScript (reading_in input) P)
+
+-- what each status says of the text, and of what the sink held before and holds now; the others never come
+abbrev pub Answered : Bool → Reading → Option (List ℕ) → Option (List ℕ) → Status → Type 0
+Answered history reading old new Ok = OnScript reading (λ script. ⊤) × (new ≡ append_known old (output_of history reading))
+Answered history reading old new (Script line why) = (reading ≡ Fails line why) × (new ≡ append_known old (output_of history reading))
+Answered history reading old new ReadFault = new ≡ old
+Answered history reading old new WriteFault = WrotePart old new (output_of history reading)
+Answered history reading old new Memory = WrotePart old new (output_of history reading)
+Answered history reading old new Usage = ⊥
+Answered history reading old new Aborted = ⊥
+Answered history reading old new NetFault = ⊥
+Answered history reading old new JournalFull = ⊥
+Answered history reading old new JournalFault = ⊥
+
+-- the statuses that a replay may have
+abbrev pub IsReplayStatus : Status → Type 0
+IsReplayStatus Ok = ⊤
+IsReplayStatus (Script line why) = ⊤
+IsReplayStatus ReadFault = ⊤
+IsReplayStatus WriteFault = ⊤
+IsReplayStatus Memory = ⊤
+IsReplayStatus Usage = ⊥
+IsReplayStatus Aborted = ⊥
+IsReplayStatus NetFault = ⊥
+IsReplayStatus JournalFull = ⊥
+IsReplayStatus JournalFault = ⊥
+
+-- where no fault comes, the text alone decides, want of memory aside
+abbrev pub IsDecided : Reading → Status → Type 0
+IsDecided reading Memory = ⊤
+IsDecided (Reads script) status = status ≡ Ok
+IsDecided (Fails line why) status = status ≡ Script line why
+
+-- the answers to a text that fails at a line
+abbrev pub Refused : Option (List ℕ) → Option (List ℕ) → ℕ → Why → Status → Type 0
+Refused old new line why status = Answered false (Fails line why) old new status

@@ -1,0 +1,59 @@
+-- What is claimed of the run of a script.
+use Rattle.std.specs.Prelude.{◌≡◌, ℕ, true, List, [], length}
+use Rattle.std.specs.List.{flat_map}
+use Rattle.mc_text.specs.Stream.{Takes, own_calls, own_requests, IsPrefixOf}
+use Rattle.sei_main.specs.declared.script.line.ScriptLine.{ScriptLine}
+use Rattle.sei_main.specs.declared.script.line.ScriptLine.TheVariants as lines
+use Rattle.sei_main.specs.Context.{geometry_of}
+use Rattle.sei_main.specs.Quiet.{is_quiet, ends_in_drain}
+use Rattle.std.specs.Prelude.{◌==◌, if◌then◌else◌}
+use Rattle.mc_text.specs.declared.limits.Limits.{Limits}
+use Rattle.sei_main.specs.History.{Entry, IsLegal}
+use Rattle.sei_main.specs.Own.{own_entries, calls_in, messages_of, accepted_of, IsNumbered}
+use Rattle.sei_main.specs.Events.{entries_of, sent_to}
+use Rattle.sei_main.specs.Seats.{waiting}
+use Rattle.sei_main.specs.State.{limits_of, seat_at}
+use Rattle.sei_main.specs.Run.{run_of}
+
+abbrev pub fed_by : ℕ → ScriptLine → List ℕ
+fed_by c (lines.Geometry g) = []
+fed_by c (lines.Open d) = []
+fed_by c (lines.Say d bytes) = if d == c then bytes else []
+fed_by c lines.Drain = []
+
+-- all bytes that a script feeds to a connection
+abbrev pub fed_to : ℕ → List ScriptLine → List ℕ
+fed_to c script = flat_map (fed_by c) script
+
+-- the limits of its requests
+abbrev pub script_limits : List ScriptLine → Limits
+script_limits script = limits_of (geometry_of script)
+
+-- the history that its run makes
+abbrev pub history_of : List ScriptLine → List Entry
+history_of script = entries_of (run_of script).events
+
+abbrev pub IsLegalRun : List ScriptLine → Type 0
+IsLegalRun script = IsLegal (geometry_of script) (history_of script)
+
+abbrev pub IsNumberedRun : List ScriptLine → Type 0
+IsNumberedRun script = (c : ℕ) → IsNumbered (script_limits script) (fed_to c script) (own_entries c (history_of script))
+
+-- connection c was sent the messages of its first entries, and what its peer accepts of them is counted
+pub record SendsReplies (script : List ScriptLine) (c : ℕ) : Type 0 where
+  pub answered : List Entry
+  pub first : IsPrefixOf answered (own_entries c (history_of script))
+  pub sent : sent_to c (run_of script).events ≡ messages_of answered
+  pub took : (seat_at (run_of script).state c).sent ≡ length (accepted_of (sent_to c (run_of script).events))
+
+abbrev pub SendsRepliesRun : List ScriptLine → Type 0
+SendsRepliesRun script = (c : ℕ) → SendsReplies script c
+
+-- every call of connection c was answered, every reply was sent, and what waits is what no request of it took
+pub record AnswersAll (script : List ScriptLine) (c : ℕ) : Type 0 where
+  pub calls : calls_in (own_entries c (history_of script)) ≡ own_calls (script_limits script) (fed_to c script)
+  pub messages : sent_to c (run_of script).events ≡ messages_of (own_entries c (history_of script))
+  pub left : Takes (script_limits script) (fed_to c script) (own_requests (script_limits script) (fed_to c script)) (waiting (seat_at (run_of script).state c))
+
+abbrev pub AnswersAllRun : List ScriptLine → Type 0
+AnswersAllRun script = is_quiet script ≡ true → ends_in_drain script ≡ true → (c : ℕ) → AnswersAll script c

@@ -1,0 +1,28 @@
+-- Scripts of which more is promised.
+use Rattle.std.specs.Prelude.{Bool, true, false, List, [], ◌∷◌}
+use Rattle.std.specs.List.{list_all}
+use Rattle.sei_main.specs.declared.script.line.ScriptLine.{ScriptLine}
+use Rattle.sei_main.specs.declared.script.line.ScriptLine.TheVariants.{Geometry, Open, Say, Drain}
+
+-- a line that plans no fault and changes no byte on its way; each kind of line that is offered now is one
+abbrev pub is_quiet_line : ScriptLine → Bool
+is_quiet_line (Geometry g) = true
+is_quiet_line (Open c) = true
+is_quiet_line (Say c bytes) = true
+is_quiet_line Drain = true
+
+-- no fault line and no wire line
+abbrev pub is_quiet : List ScriptLine → Bool
+is_quiet script = list_all is_quiet_line script
+
+abbrev pub is_drain : ScriptLine → Bool
+is_drain (Geometry g) = false
+is_drain (Open c) = false
+is_drain (Say c bytes) = false
+is_drain Drain = true
+
+-- the last line is `drain`
+abbrev pub ends_in_drain : List ScriptLine → Bool
+ends_in_drain [] = false
+ends_in_drain (line ∷ []) = is_drain line
+ends_in_drain (line ∷ next ∷ lines) = ends_in_drain (next ∷ lines)

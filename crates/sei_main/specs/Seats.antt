@@ -1,0 +1,23 @@
+-- A connection, as a clause sees it.
+use Rattle.std.specs.Prelude.{ℕ, ◌+◌, Bool, false, List, [], ◌++◌, drop}
+
+pub record Seat : Type 0 where
+  pub fed : List ℕ  -- all bytes that were fed
+  pub consumed : ℕ  -- how many of them requests took
+  pub entered : ℕ  -- how many of its calls were answered
+  pub sent : ℕ  -- how many messages were sent to it
+  pub closed : Bool  -- by `quit` or a closing request
+
+abbrev pub empty_seat : Seat
+empty_seat = record { fed = []; consumed = 0; entered = 0; sent = 0; closed = false }
+
+abbrev pub waiting : Seat → List ℕ
+waiting seat = drop seat.consumed seat.fed
+
+abbrev pub fed_more : Seat → List ℕ → Seat
+fed_more seat bytes = record seat { fed = seat.fed ++ bytes }
+
+-- a request of so many bytes was answered: so many calls, so many messages
+abbrev pub taken_more : Seat → ℕ → ℕ → ℕ → Bool → Seat
+taken_more seat size calls messages closes =
+    record seat { consumed = seat.consumed + size; entered = seat.entered + calls; sent = seat.sent + messages; closed = closes }

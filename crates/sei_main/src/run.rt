@@ -1,0 +1,69 @@
+ghost use Rattle.std.specs.Prelude.{◌≡◌, ◌≤◌, true, false, IfSome, map, string_bytes};
+ghost use Rattle.std.specs.Io.KnownBytes.{IsAtEnd};
+ghost use Rattle.sei_outside.specs.Faults.{Rose};
+ghost use Rattle.sei_main.specs.Headline.{IsLegalRun, IsNumberedRun, SendsRepliesRun, AnswersAllRun};
+ghost use Rattle.sei_main.specs.Answers.{Answered, OnInput, IsDecided, IsReplayStatus, reading_in};
+ghost use Rattle.sei_main.specs.Forms.{is_replay, UsageWritten};
+
+use crate::replay::replay;
+use crate::report::{Stop, write_text};
+use crate::status::Status;
+use sei_outside::{Sink, Source};
+use std::alloc::Global;
+
+/// The line that is written where the words are no form.
+const USAGE: &[u8] =
+    b"usage: replay [history] | trial <number> <connections> <requests> <faults> | serve <buckets> <slots> <value words> <workers> <journal bytes>\n";
+
+fn is_replay(words: &[String]) -> bool
+    ensures { result ≡ is_replay (map string_bytes words.now) }
+{
+    match words {
+        [word] => word.as_str() == "replay",
+        _ => false,
+    }
+}
+
+fn usage<K: Sink>(sink: &mut K) -> Status
+    ensures wrote { UsageWritten (K.written sink.old) (K.written sink.new) result }
+    ensures later { K.faults sink.old ≤ K.faults sink.new }
+    ensures fault { result ≡ Status.WriteFault → Rose (K.faults sink.old) (K.faults sink.new) }
+{
+    match write_text(sink, USAGE) {
+        Ok(()) => Status::Usage,
+        Err(_) => Status::WriteFault,
+    }
+}
+
+/// Does what the words of the command line ask for. The one form is `replay`: a script from `source`,
+/// its report to `sink`. Other words get the usage line.
+pub fn run<S: Source, K: Sink>(
+    alloc: Global,
+    words: &[String],
+    source: &mut S,
+    sink: &mut K,
+) -> Status
+    ensures usage { is_replay (map string_bytes words.now) ≡ false → UsageWritten (K.written sink.old) (K.written sink.new) result }
+    ensures only_usage { result ≡ Status.Usage → is_replay (map string_bytes words.now) ≡ false }
+    ensures read_fault { result ≡ Status.ReadFault → Rose (S.faults source.old) (S.faults source.new) }
+    ensures write_fault { result ≡ Status.WriteFault → Rose (K.faults sink.old) (K.faults sink.new) }
+    ensures read_later { S.faults source.old ≤ S.faults source.new }
+    ensures write_later { K.faults sink.old ≤ K.faults sink.new }
+
+    // For the word `replay`: as `replay` says.
+    ensures status { is_replay (map string_bytes words.now) ≡ true → IsReplayStatus result }
+    ensures answer { is_replay (map string_bytes words.now) ≡ true → IfSome (S.left source.old) (λ input. Answered false (reading_in input) (K.written sink.old) (K.written sink.new) result) }
+    ensures read_to_end { result ≡ Status.Ok → IsAtEnd (S.left source.new) }
+    ensures complete { is_replay (map string_bytes words.now) ≡ true → ¬ Rose (S.faults source.old) (S.faults source.new) → ¬ Rose (K.faults sink.old) (K.faults sink.new)
+        → IfSome (S.left source.old) (λ input. IsDecided (reading_in input) result) }
+    ensures legal { result ≡ Status.Ok → OnInput (S.left source.old) IsLegalRun }
+    ensures numbered { result ≡ Status.Ok → OnInput (S.left source.old) IsNumberedRun }
+    ensures sent { result ≡ Status.Ok → OnInput (S.left source.old) SendsRepliesRun }
+    ensures all_answered { result ≡ Status.Ok → OnInput (S.left source.old) AnswersAllRun }
+{
+    if is_replay(words) {
+        replay(alloc, source, sink, false)
+    } else {
+        usage(sink)
+    }
+}

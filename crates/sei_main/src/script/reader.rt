@@ -1,0 +1,178 @@
+ghost use Rattle.std.specs.Prelude.{◌≡◌, ◌≤◌, IfOk, length, drop};
+ghost use Rattle.mc_model.specs.Server.{IsValid};
+ghost use Rattle.sei_main.specs.declared.script.reader.ScriptFault.TheVariants.{Memory};
+ghost use Rattle.sei_main.specs.Limits.{script_limit};
+ghost use Rattle.sei_main.specs.Context.{empty_context, context_of, geometry_of};
+ghost use Rattle.sei_main.specs.Fit.{AreFit};
+ghost use Rattle.sei_main.specs.Reading.{Answers, ends_at, reading_of};
+
+use super::line::{Context, Said, ScriptLine, Why};
+use super::lines::Script;
+use super::says::line_says;
+use super::words::find;
+use std::alloc::{AllocError, AllocFailed, Global};
+
+/// The most bytes that a script may have.
+pub const LIMIT: usize = 16_777_216;
+
+/// Why no script was read.
+#[derive(Clone, Copy, Debug, PartialEq, Eq)]
+pub enum ScriptFault {
+    Memory,
+    /// The first line that does not read; lines are numbered from 1, and skipped ones count.
+    Line { line: u64, why: Why },
+}
+
+impl From<AllocError> for ScriptFault {
+    ghost from_gives = { λ _ e. e ≡ Memory };
+
+    fn from(_e: AllocError) -> ScriptFault {
+        ScriptFault::Memory
+    }
+}
+
+impl<T: Drop> From<AllocFailed<T>> for ScriptFault {
+    ghost from_gives = { λ _ e. e ≡ Memory };
+
+    fn from(_e: AllocFailed<T>) -> ScriptFault {
+        ScriptFault::Memory
+    }
+}
+
+fn rest_from(text: &[u8], at: usize) -> &[u8]
+    requires { at ≤ length text.now }
+    ensures { result.now ≡ drop at text.now }
+{
+    &text[at..]
+}
+
+/// The script of these lines, before what is left behind the last LF, which is the line with this number.
+fn whole(
+    lines: Vec<ScriptLine>,
+    context: Context,
+    number: u64,
+    rest: &[u8],
+) -> Result<Script, ScriptFault>
+    requires context { context ≡ context_of lines.items }
+    requires fit { AreFit empty_context lines.items }
+    ensures { Answers (ends_at lines.items number rest.now) result }
+{
+    if !rest.is_empty() {
+        return Err(ScriptFault::Line {
+            line: number,
+            why: Why::UnfinishedLine,
+        });
+    }
+    match context.geometry {
+        None => Err(ScriptFault::Line {
+            line: number,
+            why: Why::GeometryMissing,
+        }),
+        Some(geometry) => Ok(Script::new(geometry, lines)),
+    }
+}
+
+/// Reads a script.
+pub fn read_script(alloc: Global, bytes: &[u8]) -> Result<Script, ScriptFault>
+    ensures answer { Answers (reading_of script_limit bytes.now) result }
+    ensures fit { IfOk result (λ script. AreFit empty_context script) }
+    ensures geometry { IfOk result (λ script. IsValid (geometry_of script)) }
+{
+    if bytes.len() > LIMIT {
+        return Err(ScriptFault::Line {
+            line: 0,
+            why: Why::TooBig,
+        });
+    }
+    let mut lines = Vec::new(alloc);
+    let mut context = Context::empty();
+    let mut number = 1u64;
+    let mut rest = bytes;
+    while let Some(end) = find(rest, b'\n') {
+        match line_says(alloc, context, &rest[..end])? {
+            Said::Nothing => {}
+            Said::Line(line) => {
+                context = context.after(&line);
+                lines.push(line)?;
+            }
+            Said::Wrong(why) => return Err(ScriptFault::Line { line: number, why }),
+        }
+        number += 1;
+        rest = rest_from(rest, end + 1);
+    }
+    whole(lines, context, number, rest)
+}
+
+#[cfg(test)]
+mod tests {
+    use super::super::line::ScriptLine;
+    use super::*;
+
+    #[test]
+    fn first_bad_lines_and_causes(rt: HostRuntime) {
+        let table = [
+            ("", 1, Why::GeometryMissing),
+            ("# a\r\n\n", 3, Why::GeometryMissing),
+            ("drain\n", 1, Why::GeometryMissing),
+            (" geometry 1 1 3\n", 1, Why::GeometryMissing),
+            ("bad\nbad", 1, Why::GeometryMissing),
+            ("bad", 1, Why::UnfinishedLine),
+            ("geometry 1 1 3\n# a", 2, Why::UnfinishedLine),
+            ("geometry 1 1\n", 1, Why::BadLine),
+            ("geometry  1 1 3\n", 1, Why::BadLine),
+            ("geometry 1 1 3 \n", 1, Why::BadLine),
+            ("geometry 01 1 3\n", 1, Why::BadLine),
+            ("geometry 65 1 3\n", 1, Why::GeometryOutOfLimits),
+            ("geometry 1 1025 3\n", 1, Why::GeometryOutOfLimits),
+            ("geometry 1 1 2\n", 1, Why::GeometryOutOfLimits),
+            (
+                "geometry 1 1 18446744073709551619\n",
+                1,
+                Why::GeometryOutOfLimits,
+            ),
+            ("geometry 1 1 3\r\n\ngeometry 0 x\n", 3, Why::BadLine),
+            ("geometry 1 1 3\n drain\n", 2, Why::UnknownLine),
+            ("geometry 1 1 3\ndrain \n", 2, Why::BadLine),
+            ("geometry 1 1 3\nopen 0 coded\n", 2, Why::BadLine),
+            ("geometry 1 1 3\nopen 0\n", 2, Why::BadLine),
+            ("geometry 1 1 3\nopen 1 plain\n", 2, Why::TooManyConnections),
+            (
+                "geometry 1 1 3\nopen 0 plain\nopen 0 plain\n",
+                3,
+                Why::WrongNumber,
+            ),
+            ("geometry 1 1 3\nsay 0\n", 2, Why::BadLine),
+            ("geometry 1 1 3\nsay 0 \\xAB\n", 2, Why::BadLine),
+            ("geometry 1 1 3\nsay 0 \n", 2, Why::UnknownConnection),
+        ];
+        for (text, line, why) in &table {
+            match read_script(rt.alloc(), text.as_bytes()) {
+                Ok(_) => assert!(rt; false, "{text} reads"),
+                Err(fault) => {
+                    let want = ScriptFault::Line {
+                        line: *line,
+                        why: *why,
+                    };
+                    assert_eq!(rt; fault, want, "{text}");
+                }
+            }
+        }
+    }
+
+    #[test]
+    fn lines_in_order(rt: HostRuntime) -> Result<(), ScriptFault> {
+        let text =
+            b"# a\r\ngeometry 2 5 4\r\n\nopen 0 plain\nsay 0 get a\\r\\n\\\\\\x0a\xff \r\nsay 0 \ndrain\n";
+        let script = read_script(rt.alloc(), text)?;
+        assert_eq!(rt; script.geometry().slots, 5);
+        assert_eq!(rt; script.lines().len(), 5);
+        match &script.lines()[2] {
+            ScriptLine::Say { c, bytes } => {
+                assert_eq!(rt; *c, 0);
+                assert_eq!(rt; bytes.bytes(), b"get a\r\n\\\n\xff ".as_slice());
+            }
+            _ => assert!(rt; false),
+        }
+        Ok(())
+    }
+}

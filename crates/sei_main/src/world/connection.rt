@@ -1,0 +1,92 @@
+ghost use Rattle.std.specs.Prelude.{◌≡◌, ◌+◌, ◌<◌, ◌≤◌, ◌++◌, ◌^◌, List, length, drop, OnOk, OnErr};
+ghost use Rattle.sei_main.specs.Seats.{Seat, empty_seat, waiting, fed_more, taken_more};
+
+use sei_code::Memory;
+use std::alloc::Global;
+use std::marker::Model;
+
+/// A connection: the bytes that were fed to it, how many of them requests took, and how many calls
+/// were answered and messages sent.
+#[derive(Drop)]
+pub struct Connection {
+    fed: Vec<u8>,
+    consumed: usize,
+    entered: u64,
+    sent: u64,
+    closed: bool,
+}
+
+impl Model for Connection {
+    ghost use Rattle.std.specs.Prelude.{◌≤◌, length};
+    ghost use Rattle.sei_main.specs.Seats.{Seat};
+
+    ghost Value = { Seat };
+
+    ghost view = { λ c. record { fed = c.fed.items; consumed = c.consumed; entered = c.entered; sent = c.sent; closed = c.closed } };
+
+    ghost invariant = { λ c. (c.consumed ≤ length c.fed.items) × (c.entered ≤ c.consumed) × (c.sent ≤ c.entered) };
+}
+
+impl Connection {
+    pub fn new(alloc: Global) -> Connection
+        ensures { result ≡ empty_seat }
+    {
+        Connection {
+            fed: Vec::new(alloc),
+            consumed: 0,
+            entered: 0,
+            sent: 0,
+            closed: false,
+        }
+    }
+
+    pub fn feed(&mut self, bytes: &[u8]) -> Result<(), Memory>
+        ensures ok { OnOk result (self.new ≡ fed_more self.old bytes.now) }
+        ensures err { OnErr result (self.new ≡ self.old) }
+    {
+        self.fed.extend_from_slice(bytes)
+    }
+
+    /// The bytes that no request took yet.
+    pub fn waiting(&self) -> &[u8]
+        ensures { result.now ≡ waiting self.now }
+    {
+        &self.fed.as_slice()[self.consumed..]
+    }
+
+    pub fn is_closed(&self) -> bool
+        ensures { result ≡ self.now.closed }
+    {
+        self.closed
+    }
+
+    /// How many of its calls were answered, which is the number of the next one.
+    pub fn entered(&self) -> u64
+        ensures entered { result ≡ self.now.entered }
+        ensures room { result + length (waiting self.now) < 2 ^ 64 }
+    {
+        self.entered
+    }
+
+    /// How many messages were sent to it.
+    pub fn sent(&self) -> u64
+        ensures { result ≡ self.now.sent }
+    {
+        self.sent
+    }
+
+    /// A request of `size` bytes was answered: so many calls, so many messages.
+    pub fn took(&mut self, size: usize, calls: u64, messages: u64, closes: bool)
+        requires whole { size ≤ length (waiting self.old) }
+        requires calls { calls ≤ size }
+        requires messages { messages ≤ calls }
+        ensures { self.new ≡ taken_more self.old size calls messages closes }
+    {
+        let all = self.fed.len();
+        prove!(self.consumed + size <= all);
+        self.consumed += size;
+        self.entered += calls;
+        self.sent += messages;
+        self.closed = closes;
+    }
+}

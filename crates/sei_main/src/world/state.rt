@@ -1,0 +1,300 @@
+ghost use Rattle.std.specs.Prelude.{◌≡◌, ◌+◌, ◌<◌, ◌≤◌, ◌++◌, ◌∷◌, [], ◌^◌, List, length, take, OnOk, IfOk, slice_set, slice_index_or, Some, if◌then◌else◌};
+ghost use Rattle.std.specs.Io.KnownBytes.{append_known};
+ghost use Rattle.sei_outside.specs.Faults.{Rose};
+ghost use Rattle.sei_outside.specs.Bytes.{WrotePart};
+ghost use Rattle.mc_model.specs.Server.{IsValid, empty_server, server_answer};
+ghost use Rattle.mc_model.specs.Views.{placed_of, IsSpanOf};
+ghost use Rattle.mc_text.specs.Reading.{IsReading, IsOf, meaning_at, calls_at, buckets_of};
+ghost use Rattle.sei_main.specs.Own.{is_message, messages_of};
+ghost use Rattle.sei_main.specs.Events.{entries_of};
+ghost use Rattle.sei_main.specs.Seats.{empty_seat, fed_more, taken_more, waiting};
+ghost use Rattle.sei_main.specs.State.{State, Went, limits_of, clock_answer, entry_for, entry_events, answers, step, round, led};
+ghost use Rattle.sei_main.specs.Becomes.{Becomes, IsNext, IsKnown, StandsFirst, answers_to, events_to, seat_behind};
+ghost use Rattle.sei_main.specs.Report.{events_text, line_text};
+
+use super::connection::Connection;
+use crate::report::{Reporter, Stop};
+use crate::script::ScriptLine;
+use mc_model::{CallSpan, Geometry, PlainServer};
+use mc_text::{Limits, ReadRequest, Request, parse, read_request};
+use sei_code::Memory;
+use sei_outside::Sink;
+use std::alloc::Global;
+use std::marker::Model;
+
+/// The clock's answer, in seconds since the start of 1970; no line of a script sets it yet.
+const CLOCK: u64 = 0;
+
+/// A server, and the connections that were opened to it.
+#[derive(Drop)]
+pub struct World {
+    alloc: Global,
+    geometry: Geometry,
+    server: PlainServer,
+    connections: Vec<Connection>,
+}
+
+impl Model for World {
+    ghost use Rattle.std.specs.Prelude.{◌≡◌, length};
+    ghost use Rattle.mc_model.specs.Server.{IsValid};
+    ghost use Rattle.sei_main.specs.State.{State};
+
+    ghost Value = { State };
+
+    ghost view = { λ w. record { geometry = w.geometry; server = w.server; seats = w.connections.items } };
+
+    ghost invariant = { λ w. IsValid w.geometry × (length w.server.buckets ≡ w.geometry.buckets) };
+}
+
+/// Answers a call at its bucket, and writes its entry and its message; whether it has a message.
+fn answer_call<K: Sink>(
+    server: &mut PlainServer,
+    reporter: Reporter,
+    c: u32,
+    number: u64,
+    text: &[u8],
+    call: &CallSpan,
+    sink: &mut K,
+) -> Result<bool, Stop>
+    requires span { IsSpanOf text.now call.now }
+    requires bucket { call.now.bucket < length server.old.buckets }
+    ensures server { OnOk result (server.new ≡ (server_answer server.old clock_answer (placed_of text.now call.now)).0) }
+    ensures sent { IfOk result (λ sent. sent ≡ is_message (server_answer server.old clock_answer (placed_of text.now call.now)).1) }
+    ensures size { length server.new.buckets ≡ length server.old.buckets }
+    ensures all { OnOk result (K.written sink.new ≡ append_known (K.written sink.old) (events_text reporter.history (entry_events (entry_for c number (placed_of text.now call.now) (server_answer server.old clock_answer (placed_of text.now call.now)).1)))) }
+    ensures part { WrotePart (K.written sink.old) (K.written sink.new) (events_text reporter.history (entry_events (entry_for c number (placed_of text.now call.now) (server_answer server.old clock_answer (placed_of text.now call.now)).1))) }
+    ensures fault { result ≡ Err Stop.WriteFault → Rose (K.faults sink.old) (K.faults sink.new) }
+    ensures later { K.faults sink.old ≤ K.faults sink.new }
+{
+    match server.answer(CLOCK, text, call) {
+        Err(_) => Err(Stop::Memory),
+        Ok(reply) => {
+            reporter.write_entry(sink, c, number, call.bucket, CLOCK, reply.as_slice())?;
+            reporter.write_message(sink, c, reply.as_slice())
+        }
+    }
+}
+
+/// Answers all calls of a request, numbered from `first` on; how many messages were sent.
+fn answer_calls<K: Sink>(
+    server: &mut PlainServer,
+    reporter: Reporter,
+    c: u32,
+    first: u64,
+    text: &[u8],
+    request: &Request,
+    sink: &mut K,
+) -> Result<u64, Stop>
+    requires of { IsOf text.now request.now }
+    requires some { 0 < length text.now }
+    requires few { first + length text.now < 2 ^ 64 }
+    requires buckets { buckets_of request.now ≤ length server.old.buckets }
+    ensures server { OnOk result (server.new ≡ (answers c first server.old (calls_at text.now request.now)).0) }
+    ensures messages { IfOk result (λ count. count ≡ length (messages_of (entries_of (answers c first server.old (calls_at text.now request.now)).1))) }
+    ensures few { IfOk result (λ count. count ≤ length (calls_at text.now request.now)) }
+    ensures size { length server.new.buckets ≡ length server.old.buckets }
+    ensures all { OnOk result (K.written sink.new ≡ append_known (K.written sink.old) (events_text reporter.history (answers c first server.old (calls_at text.now request.now)).1)) }
+    ensures part { WrotePart (K.written sink.old) (K.written sink.new) (events_text reporter.history (answers c first server.old (calls_at text.now request.now)).1) }
+    ensures fault { result ≡ Err Stop.WriteFault → Rose (K.faults sink.old) (K.faults sink.new) }
+    ensures later { K.faults sink.old ≤ K.faults sink.new }
+{
+    let mut messages = 0;
+    let mut cursor = request.cursor(text);
+    for nth in 0..request.calls() {
+        if let Some(call) = cursor.next(request, text) {
+            let sent = answer_call(server, reporter, c, first + nth, text, &call, sink)?;
+            messages += sent as u64;
+        }
+    }
+    Ok(messages)
+}
+
+/// The connection takes a request, which stands in the first `size` bytes that wait there: all its
+/// calls are answered.
+fn take_request<K: Sink>(
+    server: &mut PlainServer,
+    connection: &mut Connection,
+    reporter: Reporter,
+    c: u32,
+    size: usize,
+    request: &Request,
+    sink: &mut K,
+) -> Result<(), Stop>
+    requires first { StandsFirst connection.old size request.now }
+    requires buckets { buckets_of request.now ≤ length server.old.buckets }
+    ensures server { OnOk result (server.new ≡ (answers_to c server.old connection.old size request.now).0) }
+    ensures connection { OnOk result (connection.new ≡ seat_behind c server.old connection.old size request.now) }
+    ensures size { length server.new.buckets ≡ length server.old.buckets }
+    ensures all { OnOk result (K.written sink.new ≡ append_known (K.written sink.old) (events_text reporter.history (events_to c server.old connection.old size request.now))) }
+    ensures part { WrotePart (K.written sink.old) (K.written sink.new) (events_text reporter.history (events_to c server.old connection.old size request.now)) }
+    ensures fault { result ≡ Err Stop.WriteFault → Rose (K.faults sink.old) (K.faults sink.new) }
+    ensures later { K.faults sink.old ≤ K.faults sink.new }
+{
+    let text = &connection.waiting()[..size];
+    let first = connection.entered();
+    let messages = answer_calls(server, reporter, c, first, text, request, sink)?;
+    let closes = request.ends_connection();
+    reporter.write_closed(sink, c, closes)?;
+    connection.took(size, request.calls(), messages, closes);
+    Ok(())
+}
+
+fn feed_at(connections: &mut Vec<Connection>, c: usize, bytes: &[u8]) -> Result<(), Memory>
+    requires { c < length connections.old.items }
+    ensures { OnOk result (connections.new.items ≡ slice_set connections.old.items c (fed_more (slice_index_or connections.old.items c empty_seat) bytes.now)) }
+{
+    connections[c].feed(bytes)
+}
+
+/// The first whole request that waits at a connection, and how many bytes it has.
+fn next_request(connection: &Connection, limits: &Limits) -> Option<(usize, Request)>
+    requires { 0 < limits.now.buckets }
+    ensures { IsNext limits.now connection.now result }
+{
+    if connection.is_closed() {
+        return None;
+    }
+    match read_request(connection.waiting(), limits) {
+        ReadRequest::More => None,
+        ReadRequest::Whole { length } => match parse(&connection.waiting()[..length], limits) {
+            None => None,
+            Some(request) => Some((length, request)),
+        },
+    }
+}
+
+#[tactic(auto, unfolding(crate::specs::State::led))]
+impl World {
+    /// A world with an empty server and no connection.
+    pub fn new(alloc: Global, geometry: Geometry) -> Result<World, Memory>
+        requires { IsValid geometry }
+        ensures { IfOk result (λ world. world ≡ record { geometry = geometry; server = empty_server geometry; seats = [] }) }
+    {
+        Ok(World {
+            alloc,
+            geometry,
+            server: PlainServer::new(alloc, geometry)?,
+            connections: Vec::new(alloc),
+        })
+    }
+
+    pub fn connections(&self) -> &[Connection]
+        ensures { result.now ≡ self.now.seats }
+    {
+        self.connections.as_slice()
+    }
+
+    fn limits(&self) -> Limits
+        ensures limits { result ≡ limits_of self.now.geometry }
+        ensures some { 0 < result.buckets }
+    {
+        Limits {
+            buckets: self.geometry.buckets,
+            value_bytes: 8 * self.geometry.value_words,
+        }
+    }
+
+    fn connect(&mut self) -> Result<(), Memory>
+        ensures { OnOk result (self.new ≡ (led self.old (ScriptLine.Open 0)).state) }
+    {
+        self.connections.push(Connection::new(self.alloc))?;
+        Ok(())
+    }
+
+    fn feed(&mut self, c: u32, bytes: &[u8]) -> Result<(), Memory>
+        requires { c < length self.old.seats }
+        ensures { OnOk result (self.new ≡ (led self.old (ScriptLine.Say c bytes.now)).state) }
+    {
+        feed_at(&mut self.connections, c as usize, bytes)
+    }
+
+    /// One step of a connection: its first whole request is answered. Whether there was one.
+    fn step<K: Sink>(&mut self, reporter: Reporter, c: u32, sink: &mut K) -> Result<bool, Stop>
+        requires { c < length self.old.seats }
+        ensures state { IfOk result (λ went. Becomes self.new went (step self.old c)) }
+        ensures all { OnOk result (K.written sink.new ≡ append_known (K.written sink.old) (events_text reporter.history (step self.old c).events)) }
+        ensures part { WrotePart (K.written sink.old) (K.written sink.new) (events_text reporter.history (step self.old c).events) }
+        ensures fault { result ≡ Err Stop.WriteFault → Rose (K.faults sink.old) (K.faults sink.new) }
+        ensures later { K.faults sink.old ≤ K.faults sink.new }
+    {
+        let limits = self.limits();
+        match next_request(&self.connections[c as usize], &limits) {
+            None => Ok(false),
+            Some((size, request)) => match take_request(
+                &mut self.server,
+                &mut self.connections[c as usize],
+                reporter,
+                c,
+                size,
+                &request,
+                sink,
+            ) {
+                Err(stop) => Err(stop),
+                Ok(()) => Ok(true),
+            },
+        }
+    }
+
+    /// One step of each connection. Whether one of them answered a request.
+    fn round<K: Sink>(&mut self, reporter: Reporter, sink: &mut K) -> Result<bool, Stop>
+        requires { length self.old.seats < 2 ^ 32 }
+        ensures state { IfOk result (λ went. Becomes self.new went (round self.old)) }
+        ensures all { OnOk result (K.written sink.new ≡ append_known (K.written sink.old) (events_text reporter.history (round self.old).events)) }
+        ensures part { WrotePart (K.written sink.old) (K.written sink.new) (events_text reporter.history (round self.old).events) }
+        ensures fault { result ≡ Err Stop.WriteFault → Rose (K.faults sink.old) (K.faults sink.new) }
+        ensures later { K.faults sink.old ≤ K.faults sink.new }
+    {
+        let count = self.connections.len() as u32;
+        let mut went = false;
+        for c in 0..count {
+            let answered = self.step(reporter, c, sink)?;
+            went |= answered;
+        }
+        Ok(went)
+    }
+
+    /// Rounds up to the first in which no connection answers a request.
+    fn drain<K: Sink>(&mut self, reporter: Reporter, sink: &mut K) -> Result<(), Stop>
+        requires { length self.old.seats < 2 ^ 32 }
+        ensures state { OnOk result (self.new ≡ (led self.old ScriptLine.Drain).state) }
+        ensures all { OnOk result (K.written sink.new ≡ append_known (K.written sink.old) (line_text reporter.history self.old ScriptLine.Drain)) }
+        ensures part { WrotePart (K.written sink.old) (K.written sink.new) (line_text reporter.history self.old ScriptLine.Drain) }
+        ensures fault { result ≡ Err Stop.WriteFault → Rose (K.faults sink.old) (K.faults sink.new) }
+        ensures later { K.faults sink.old ≤ K.faults sink.new }
+    {
+        let mut went = true;
+        while went {
+            went = self.round(reporter, sink)?;
+        }
+        Ok(())
+    }
+
+    /// Does what a line of the script says, and writes what it leads to.
+    pub fn apply<K: Sink>(
+        &mut self,
+        reporter: Reporter,
+        line: &ScriptLine,
+        sink: &mut K,
+    ) -> Result<(), Stop>
+        requires few { length self.old.seats < 2 ^ 32 }
+        requires known { IsKnown (length self.old.seats) line.now }
+        ensures state { OnOk result (self.new ≡ (led self.old line.now).state) }
+        ensures all { OnOk result (K.written sink.new ≡ append_known (K.written sink.old) (line_text reporter.history self.old line.now)) }
+        ensures part { WrotePart (K.written sink.old) (K.written sink.new) (line_text reporter.history self.old line.now) }
+        ensures fault { result ≡ Err Stop.WriteFault → Rose (K.faults sink.old) (K.faults sink.new) }
+        ensures later { K.faults sink.old ≤ K.faults sink.new }
+    {
+        match line {
+            ScriptLine::Geometry { .. } => Ok(()),
+            ScriptLine::Open { .. } => match self.connect() {
+                Err(_) => Err(Stop::Memory),
+                Ok(()) => Ok(()),
+            },
+            ScriptLine::Say { c, bytes } => match self.feed(*c, bytes.bytes()) {
+                Err(_) => Err(Stop::Memory),
+                Ok(()) => Ok(()),
+            },
+            ScriptLine::Drain => self.drain(reporter, sink),
+        }
+    }
+}
