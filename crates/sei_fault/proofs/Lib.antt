@@ -1,0 +1,4 @@
+pub mod Bound
+pub mod Runs
+pub mod Scripted
+pub mod Strikes

@@ -1,0 +1,16 @@
+//! The core that a step asks for each of its effects, and that may answer otherwise than honestly:
+//! so a transient fault is an answer like any other. The laws over what a step asks, and what it
+//! makes of the answers, stand in `proofs/`.
+#![tactic(auto)]
+
+mod cause;
+mod fault_core;
+mod place;
+mod plain;
+#[cfg(test)]
+mod tests;
+
+pub use cause::AbortCause;
+pub use fault_core::{Core, Single};
+pub use place::{Act, Phase, Place, Site, Times};
+pub use plain::PlainCore;

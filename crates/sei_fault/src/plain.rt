@@ -1,0 +1,79 @@
+//! The core that never strikes.
+ghost use Rattle.std.specs.Prelude.{◌≡◌};
+ghost use Rattle.sei_fault.specs.Counts.{counted};
+ghost use Rattle.sei_fault.specs.Question.Question.{Value, Written, Test, Often, Goes};
+ghost use Rattle.sei_fault.specs.Scripted.{function_core};
+ghost use Rattle.sei_fault.specs.Plain.{plain_counts, plain_answer, plain_next, plain_lawful};
+
+use super::{Core, Place, Single, Site, Times};
+use std::marker::Model;
+
+/// The core that answers each question honestly. It stands for the number of questions that it
+/// was asked: no strike falls, and it tells that none can fall.
+#[derive(Drop)]
+pub struct PlainCore {
+    /// How many questions were asked. The count stays at its last value once it stands there.
+    asked: u128,
+}
+
+impl Model for PlainCore {
+    ghost use Rattle.std.specs.Prelude.{ℕ};
+
+    ghost Value = { ℕ };
+
+    ghost view = { λ core. core.asked };
+}
+
+impl PlainCore {
+    /// No question was asked yet.
+    pub fn new() -> PlainCore
+        ensures { result ≡ 0 }
+    {
+        PlainCore { asked: 0 }
+    }
+
+    /// Counts one question.
+    fn count(&mut self)
+        ensures { self.new ≡ counted self.old }
+    {
+        self.asked = self.asked.saturating_add(1);
+    }
+}
+
+impl Core for PlainCore {
+    ghost counts = { plain_counts };
+
+    ghost gives = { function_core plain_answer plain_next };
+
+    fn value(&mut self, honest: u64) -> u64 {
+        self.count();
+        honest
+    }
+
+    fn written(&mut self, honest: u64) -> u64 {
+        self.count();
+        honest
+    }
+
+    fn test(&mut self, honest: bool) -> bool {
+        self.count();
+        honest
+    }
+
+    fn times(&mut self, _site: Site) -> Times {
+        self.count();
+        Times::Once
+    }
+
+    fn next(&mut self, honest: Place) -> Place {
+        self.count();
+        honest
+    }
+
+    ghost lawful = { plain_lawful };
+}
+
+impl Single for PlainCore {
+    // The plain core stands for its count alone, so the clause `asked` says that nothing changes.
+    fn begin(&mut self, _t: u64) {}
+}
