@@ -4,6 +4,7 @@
 #![tactic(auto)]
 
 mod calls;
+mod clock;
 mod memory;
 mod sink;
 mod source;
@@ -12,6 +13,7 @@ mod std_edge;
 mod tests;
 mod whole;
 
+pub use clock::{Clock, HostClock, SetClock};
 pub use memory::{MemorySink, MemorySource};
 pub use sink::{Sink, Wrote};
 pub use source::{Read, Source};

@@ -135,3 +135,18 @@ fn std_sink_hands_on(rt: HostRuntime) {
     assert_eq!(rt; put(&mut sink, b"de"), Wrote::All);
     assert_eq!(rt; writer.flushes, 2);
 }
+
+fn asked<C: Clock>(clock: &C) -> u64 {
+    clock.now()
+}
+
+#[test]
+fn clocks_tell_the_time(rt: HostRuntime) {
+    let mut clock = SetClock { at: 7 };
+    assert_eq!(rt; asked(&clock), 7);
+    clock.at = 3;
+    assert_eq!(rt; asked(&clock), 3);
+    // Later than the start of 2024, and earlier than that of 2200.
+    let host = asked(&HostClock::new(&rt));
+    assert!(rt; 1_704_067_200 < host && host < 7_258_118_400);
+}

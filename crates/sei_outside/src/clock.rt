@@ -1,0 +1,57 @@
+//! What time it is: a clock that is set by hand, and the system's.
+ghost use Rattle.std.specs.Prelude.{◌≡◌, ℕ, IfSome, Some, None};
+ghost use Rattle.std.specs.declared.option.Option.{Option};
+
+use std::time;
+
+/// Tells the time. A clock has no fault: each answer is an answer, and it may go back.
+pub trait Clock {
+    /// The next answer, where the clock tells it.
+    ghost told: { Self → Option ℕ };
+
+    /// The whole seconds since the start of 1970.
+    fn now(&self) -> u64
+        ensures told { IfSome (told self.now) (λ seconds. result ≡ seconds) };
+}
+
+/// A clock that stands at what it is set to.
+#[derive(Clone, Copy, Debug, PartialEq, Eq)]
+pub struct SetClock {
+    /// The whole seconds since the start of 1970 that it answers.
+    pub at: u64,
+}
+
+impl Clock for SetClock {
+    ghost told = { λ clock. Some clock.at };
+
+    fn now(&self) -> u64 {
+        self.at
+    }
+}
+
+/// The clock of the system. It tells nothing beforehand.
+#[derive(Drop)]
+pub struct HostClock<C> {
+    inner: C,
+}
+
+impl<C> HostClock<C> {
+    /// A clock over this one of std.
+    pub fn new(inner: C) -> HostClock<C>
+        ensures { result.inner ≡ inner }
+    {
+        HostClock { inner }
+    }
+}
+
+impl<C: time::Clock> Clock for HostClock<C> {
+    ghost told = { λ _. None };
+
+    /// 0 where the system's clock can't be read, or stands before 1970.
+    fn now(&self) -> u64 {
+        match self.inner.since_1970() {
+            Ok(since) => since.as_secs(),
+            Err(_) => 0,
+        }
+    }
+}
