@@ -1,0 +1,8 @@
+pub mod LayoutLaws
+pub mod FreshLaws
+pub mod PackLaws
+pub mod HoldsLaws
+pub mod SlotLaws
+pub mod ChangeLaws
+pub mod MomentLaws
+pub mod FullLaws

@@ -1,0 +1,25 @@
+-- Bytes packed eight to a word: the first byte is the most significant, and the last word is filled up with zero bytes.
+use Rattle.std.specs.Prelude.{◌≡◌, ℕ, ◌+◌, ◌*◌, ◌/◌, ◌<◌, List, length, map, slice_index, All}
+use Rattle.std.specs.List.{range_with_len}
+
+-- a list of bytes
+abbrev pub AreBytes : List ℕ → Type 0
+AreBytes xs = All (λ b. b < 256) xs
+
+-- how many words so many bytes take
+abbrev pub words_for : ℕ → ℕ
+words_for n = (n + 7) / 8
+
+-- word j. Behind the last byte `slice_index` is 0.
+abbrev pub word_of : List ℕ → ℕ → ℕ
+word_of xs j =
+    let a = 8 * j in
+    let high = ((slice_index xs a * 256 + slice_index xs (a + 1)) * 256 + slice_index xs (a + 2)) * 256 + slice_index xs (a + 3) in
+    (((high * 256 + slice_index xs (a + 4)) * 256 + slice_index xs (a + 5)) * 256 + slice_index xs (a + 6)) * 256 + slice_index xs (a + 7)
+
+abbrev pub pack : List ℕ → List ℕ
+pack xs = map (word_of xs) (range_with_len 0 (words_for (length xs)))
+
+-- these words stand from this address on
+abbrev pub StoredAt : List ℕ → ℕ → List ℕ → Type 0
+StoredAt words a xs = (j : ℕ) → j < length xs → slice_index words (a + j) ≡ slice_index xs j
