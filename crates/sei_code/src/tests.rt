@@ -1,5 +1,7 @@
-//! Values that were published for FNV-1a, and message codes that another program computed.
+//! Values that were published for FNV-1a, and message codes that another program computed; lists
+//! at their ends; and a word whose check is not its own.
 use super::*;
+use std::test::Fail;
 
 #[test]
 fn published_codes(rt: HostRuntime) {
@@ -22,4 +24,54 @@ fn folds_a_word(rt: HostRuntime) {
     let mut fold = Fold::default();
     fold.word(0x0102_0304_0506_0708);
     assert_eq!(rt; fold.finish(), 0x7eb5_108b_368a_78ed);
+}
+
+#[test]
+fn a_buffer_without_room_takes_nothing(rt: HostRuntime) -> Result<(), Fail> {
+    let mut buffer = Buffer::new(rt.alloc(), 0)?;
+    assert!(rt; !buffer.has_room());
+    assert!(rt; !buffer.push(7));
+    assert_eq!(rt; buffer.bytes(), [].as_slice());
+    buffer.clear();
+    assert!(rt; !buffer.push(7));
+    Ok(())
+}
+
+#[test]
+fn a_buffer_with_room_for_two_takes_two(rt: HostRuntime) -> Result<(), Fail> {
+    let mut buffer = Buffer::new(rt.alloc(), 2)?;
+    assert!(rt; buffer.push(7));
+    assert!(rt; buffer.push(255));
+    assert!(rt; !buffer.has_room());
+    assert!(rt; !buffer.push(9));
+    assert_eq!(rt; buffer.bytes(), [7, 255].as_slice());
+    buffer.clear();
+    assert_eq!(rt; buffer.bytes(), [].as_slice());
+    assert!(rt; buffer.push(9));
+    assert_eq!(rt; buffer.bytes(), [9].as_slice());
+    Ok(())
+}
+
+#[test]
+fn a_list_of_words_with_room_for_two_takes_two(rt: HostRuntime) -> Result<(), Fail> {
+    let mut words = WordList::new(rt.alloc(), 2)?;
+    assert!(rt; words.push(u64::MAX));
+    assert!(rt; words.push(8));
+    assert!(rt; !words.push(9));
+    assert_eq!(rt; words.words(), [u64::MAX, 8].as_slice());
+    words.clear();
+    assert_eq!(rt; words.words(), [].as_slice());
+    assert!(rt; words.has_room());
+    Ok(())
+}
+
+#[test]
+fn an_altered_value_does_not_read(rt: HostRuntime) {
+    let sealed = Coded::seal(5);
+    assert_eq!(rt; sealed.check, 0xffff_ffff_ffff_fffa);
+    assert_eq!(rt; sealed.read(), Some(5));
+    let altered = Coded { value: 4, ..sealed };
+    assert_eq!(rt; altered.read(), None);
+    let other_check = Coded { check: 5, ..sealed };
+    assert_eq!(rt; other_check.read(), None);
 }

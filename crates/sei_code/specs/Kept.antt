@@ -1,0 +1,26 @@
+-- Lists whose room is fixed when they are made.
+use Rattle.std.specs.Prelude.{ℕ, List, [], ◌∷◌, ◌++◌, length, Bool, nat_lt, if◌then◌else◌}
+
+-- a list that never grows past its room
+pub record Kept (A : Type 0) : Type 0 where
+  pub items : List A
+  pub room : ℕ
+
+abbrev pub has_room : {A : Type 0} → Kept A → Bool
+has_room k = nat_lt (length k.items) k.room
+
+-- with one item more at the end
+abbrev pub pushed : {A : Type 0} → Kept A → A → Kept A
+pushed k x = record { items = k.items ++ x ∷ []; room = k.room }
+
+-- with one item more at the end where there is room, and else as it was
+abbrev pub offered : {A : Type 0} → Kept A → A → Kept A
+offered k x = if has_room k then pushed k x else k
+
+-- no items, and this room
+abbrev pub empty_kept : (A : Type 0) → ℕ → Kept A
+empty_kept A room = record { items = []; room = room }
+
+-- no items, and the same room
+abbrev pub emptied : {A : Type 0} → Kept A → Kept A
+emptied k = record { items = []; room = k.room }

@@ -1,0 +1,94 @@
+//! Lists whose room is fixed when they are made, so that nothing is allocated afterwards.
+ghost use Rattle.std.specs.Prelude.{◌≡◌, ◌↔◌, false, ◌<◌, ◌≤◌, ◌-◌, ◌^◌, IfOk, IfSome, length, slice_get};
+ghost use Rattle.sei_code.specs.Kept.{Kept, has_room, offered, empty_kept, emptied};
+
+use super::Memory;
+use std::alloc::Global;
+use std::marker::Model;
+
+/// A list of items that never grows past its room. Its value is its items and its room.
+#[derive(Drop)]
+pub struct Bounded<T> {
+    /// As many cells as there is room for. The first `len` of them hold the items.
+    cells: Vec<T>,
+    len: usize,
+}
+
+impl<T> Model for Bounded<T> {
+    ghost use Rattle.std.specs.Prelude.{◌≤◌, length, take};
+    ghost use Rattle.sei_code.specs.Kept.{Kept};
+
+    ghost Value = { Kept T };
+
+    ghost view = { λ b. record { items = take b.len b.cells.items; room = length b.cells.items } };
+
+    ghost invariant = { λ b. b.len ≤ length b.cells.items };
+}
+
+impl<T: Copy + Drop> Bounded<T> {
+    /// An empty list with room for `room` items. `filler` stands in the cells that hold no item.
+    pub fn new(alloc: Global, room: usize, filler: T) -> Result<Bounded<T>, Memory>
+        ensures { IfOk result (λ list. list ≡ empty_kept T room) }
+    {
+        Ok(Bounded {
+            cells: vec![in alloc; filler; room]?,
+            len: 0,
+        })
+    }
+
+    /// Whether one item more goes in.
+    pub fn has_room(&self) -> bool
+        ensures answer { result ≡ has_room self.now }
+        ensures within { length self.now.items ≤ self.now.room }
+    {
+        self.len < self.cells.len()
+    }
+
+    /// How many items there are.
+    pub fn len(&self) -> usize
+        ensures { result ≡ length self.now.items }
+    {
+        self.len
+    }
+
+    /// The items, in the order in which they came.
+    pub fn items(&self) -> &[T]
+        ensures { result.now ≡ self.now.items }
+    {
+        &self.cells[..self.len]
+    }
+
+    /// The item at `i`, counted from 0.
+    pub fn get(&self, i: usize) -> Option<T>
+        ensures found { result ≡ slice_get self.now.items i }
+        ensures below { IfSome result (λ _. i < 2 ^ 64 - 1) }
+    {
+        if i < self.len {
+            Some(self.cells[i])
+        } else {
+            None
+        }
+    }
+
+    /// Puts the item at the end. False exactly where the list is full, which then stays as it is.
+    pub fn push(&mut self, x: T) -> bool
+        ensures answer { result ≡ has_room self.old }
+        ensures full { result ≡ false ↔ length self.old.items ≡ self.old.room }
+        ensures list { self.new ≡ offered self.old x }
+    {
+        if self.len < self.cells.len() {
+            self.cells[self.len] = x;
+            self.len += 1;
+            true
+        } else {
+            false
+        }
+    }
+
+    /// Takes all items out, and keeps the room.
+    pub fn clear(&mut self)
+        ensures { self.new ≡ emptied self.old }
+    {
+        self.len = 0;
+    }
+}
