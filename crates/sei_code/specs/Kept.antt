@@ -1,5 +1,5 @@
 -- Lists whose room is fixed when they are made.
-use Rattle.std.specs.Prelude.{ℕ, List, [], ◌∷◌, ◌++◌, length, Bool, nat_lt, if◌then◌else◌}
+use Rattle.std.specs.Prelude.{ℕ, List, [], ◌∷◌, ◌++◌, length, slice_set, Bool, nat_lt, if◌then◌else◌}
 
 -- a list that never grows past its room
 pub record Kept (A : Type 0) : Type 0 where
@@ -16,6 +16,14 @@ pushed k x = record { items = k.items ++ x ∷ []; room = k.room }
 -- with one item more at the end where there is room, and else as it was
 abbrev pub offered : {A : Type 0} → Kept A → A → Kept A
 offered k x = if has_room k then pushed k x else k
+
+-- with another item in the place of the one at i
+abbrev pub replaced : {A : Type 0} → Kept A → ℕ → A → Kept A
+replaced k i x = record { items = slice_set k.items i x; room = k.room }
+
+-- with more items at the end
+abbrev pub extended : {A : Type 0} → Kept A → List A → Kept A
+extended k xs = record { items = k.items ++ xs; room = k.room }
 
 -- no items, and this room
 abbrev pub empty_kept : (A : Type 0) → ℕ → Kept A

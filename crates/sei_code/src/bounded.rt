@@ -1,6 +1,7 @@
 //! Lists whose room is fixed when they are made, so that nothing is allocated afterwards.
-ghost use Rattle.std.specs.Prelude.{◌≡◌, ◌↔◌, false, ◌<◌, ◌≤◌, ◌-◌, ◌^◌, IfOk, IfSome, length, slice_get};
-ghost use Rattle.sei_code.specs.Kept.{Kept, has_room, offered, empty_kept, emptied};
+ghost use Rattle.std.specs.Prelude.{◌≡◌, ◌↔◌, false, ◌<◌, ◌≤◌, ◌+◌, ◌-◌, ◌^◌, IfOk, IfSome, length, slice_get, nat_lt, nat_le};
+ghost use Rattle.std.specs.Bool.{OnTrue, OnFalse};
+ghost use Rattle.sei_code.specs.Kept.{Kept, has_room, offered, replaced, extended, empty_kept, emptied};
 
 use super::Memory;
 use std::alloc::Global;
@@ -51,6 +52,14 @@ impl<T: Copy + Drop> Bounded<T> {
         self.len
     }
 
+    /// How many items more go in.
+    pub fn spare(&self) -> usize
+        ensures value { result ≡ self.now.room - length self.now.items }
+        ensures within { length self.now.items ≤ self.now.room }
+    {
+        self.cells.len() - self.len
+    }
+
     /// The items, in the order in which they came.
     pub fn items(&self) -> &[T]
         ensures { result.now ≡ self.now.items }
@@ -83,6 +92,36 @@ impl<T: Copy + Drop> Bounded<T> {
         } else {
             false
         }
+    }
+
+    /// Puts another item in the place of the one at `i`. False where there is none, and then
+    /// nothing has changed.
+    pub fn set(&mut self, i: usize, x: T) -> bool
+        ensures there { result ≡ nat_lt i (length self.old.items) }
+        ensures done { OnTrue result (self.new ≡ replaced self.old i x) }
+        ensures not_there { OnFalse result (self.new ≡ self.old) }
+    {
+        let there = i < self.len;
+        if there {
+            self.cells[i] = x;
+        }
+        there
+    }
+
+    /// Puts all the items at the end, in their order. False where there is no room for all of them,
+    /// and then nothing has changed.
+    pub fn extend_from_slice(&mut self, items: &[T]) -> bool
+        ensures answer { result ≡ nat_le (length self.old.items + length items.now) self.old.room }
+        ensures done { OnTrue result (self.new ≡ extended self.old items.now) }
+        ensures full { OnFalse result (self.new ≡ self.old) }
+    {
+        if items.len() > self.spare() {
+            return false;
+        }
+        let end = self.len + items.len();
+        self.cells[self.len..end].copy_from_slice(items);
+        self.len = end;
+        true
     }
 
     /// Takes all items out, and keeps the room.

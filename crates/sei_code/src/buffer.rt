@@ -1,6 +1,7 @@
 //! Bytes and words in bounded lists.
-ghost use Rattle.std.specs.Prelude.{◌≡◌, ◌↔◌, false, ◌≤◌, ℕ, IfOk, length};
-ghost use Rattle.sei_code.specs.Kept.{Kept, has_room, offered, empty_kept, emptied};
+ghost use Rattle.std.specs.Prelude.{◌≡◌, ◌↔◌, false, ◌<◌, ◌≤◌, ◌+◌, ◌-◌, ◌^◌, ℕ, IfOk, IfSome, length, slice_get, nat_lt, nat_le};
+ghost use Rattle.std.specs.Bool.{OnTrue, OnFalse};
+ghost use Rattle.sei_code.specs.Kept.{Kept, has_room, offered, replaced, extended, empty_kept, emptied};
 
 use super::Memory;
 use super::bounded::Bounded;
@@ -40,6 +41,29 @@ impl Buffer {
         self.list.has_room()
     }
 
+    /// How many bytes there are.
+    pub fn len(&self) -> usize
+        ensures { result ≡ length self.now.items }
+    {
+        self.list.len()
+    }
+
+    /// How many bytes more go in.
+    pub fn spare(&self) -> usize
+        ensures value { result ≡ self.now.room - length self.now.items }
+        ensures within { length self.now.items ≤ self.now.room }
+    {
+        self.list.spare()
+    }
+
+    /// The byte at `i`, counted from 0, or `None` where there are no more than `i`.
+    pub fn get(&self, i: usize) -> Option<u8>
+        ensures found { result ≡ slice_get self.now.items i }
+        ensures below { IfSome result (λ _. i < 2 ^ 64 - 1) }
+    {
+        self.list.get(i)
+    }
+
     /// Puts the byte at the end. False exactly where there is no room, and then all stays.
     pub fn push(&mut self, b: u8) -> bool
         ensures answer { result ≡ has_room self.old }
@@ -47,6 +71,26 @@ impl Buffer {
         ensures list { self.new ≡ offered self.old b }
     {
         self.list.push(b)
+    }
+
+    /// Puts another byte in the place of the one at `i`. False where there is none, and then
+    /// nothing has changed.
+    pub fn set(&mut self, i: usize, b: u8) -> bool
+        ensures there { result ≡ nat_lt i (length self.old.items) }
+        ensures done { OnTrue result (self.new ≡ replaced self.old i b) }
+        ensures not_there { OnFalse result (self.new ≡ self.old) }
+    {
+        self.list.set(i, b)
+    }
+
+    /// Puts all the bytes at the end, in their order. False where there is no room for all of them,
+    /// and then nothing has changed.
+    pub fn extend_from_slice(&mut self, bytes: &[u8]) -> bool
+        ensures answer { result ≡ nat_le (length self.old.items + length bytes.now) self.old.room }
+        ensures done { OnTrue result (self.new ≡ extended self.old bytes.now) }
+        ensures full { OnFalse result (self.new ≡ self.old) }
+    {
+        self.list.extend_from_slice(bytes)
     }
 
     /// The bytes, in the order in which they came.
@@ -97,6 +141,29 @@ impl WordList {
         self.list.has_room()
     }
 
+    /// How many words there are.
+    pub fn len(&self) -> usize
+        ensures { result ≡ length self.now.items }
+    {
+        self.list.len()
+    }
+
+    /// How many words more go in.
+    pub fn spare(&self) -> usize
+        ensures value { result ≡ self.now.room - length self.now.items }
+        ensures within { length self.now.items ≤ self.now.room }
+    {
+        self.list.spare()
+    }
+
+    /// The word at `i`, counted from 0, or `None` where there are no more than `i`.
+    pub fn get(&self, i: usize) -> Option<u64>
+        ensures found { result ≡ slice_get self.now.items i }
+        ensures below { IfSome result (λ _. i < 2 ^ 64 - 1) }
+    {
+        self.list.get(i)
+    }
+
     /// Puts the word at the end. False exactly where there is no room, and then all stays.
     pub fn push(&mut self, w: u64) -> bool
         ensures answer { result ≡ has_room self.old }
@@ -104,6 +171,26 @@ impl WordList {
         ensures list { self.new ≡ offered self.old w }
     {
         self.list.push(w)
+    }
+
+    /// Puts another word in the place of the one at `i`. False where there is none, and then
+    /// nothing has changed.
+    pub fn set(&mut self, i: usize, w: u64) -> bool
+        ensures there { result ≡ nat_lt i (length self.old.items) }
+        ensures done { OnTrue result (self.new ≡ replaced self.old i w) }
+        ensures not_there { OnFalse result (self.new ≡ self.old) }
+    {
+        self.list.set(i, w)
+    }
+
+    /// Puts all the words at the end, in their order. False where there is no room for all of them,
+    /// and then nothing has changed.
+    pub fn extend_from_slice(&mut self, words: &[u64]) -> bool
+        ensures answer { result ≡ nat_le (length self.old.items + length words.now) self.old.room }
+        ensures done { OnTrue result (self.new ≡ extended self.old words.now) }
+        ensures full { OnFalse result (self.new ≡ self.old) }
+    {
+        self.list.extend_from_slice(words)
     }
 
     /// The words, in the order in which they came.

@@ -45,10 +45,16 @@ fn a_buffer_with_room_for_two_takes_two(rt: HostRuntime) -> Result<(), Fail> {
     assert!(rt; !buffer.has_room());
     assert!(rt; !buffer.push(9));
     assert_eq!(rt; buffer.bytes(), [7, 255].as_slice());
+    assert_eq!(rt; buffer.len(), 2);
+    assert_eq!(rt; buffer.get(1), Some(255));
+    assert_eq!(rt; buffer.get(2), None);
     buffer.clear();
     assert_eq!(rt; buffer.bytes(), [].as_slice());
+    assert_eq!(rt; buffer.get(0), None);
     assert!(rt; buffer.push(9));
-    assert_eq!(rt; buffer.bytes(), [9].as_slice());
+    assert!(rt; buffer.set(0, 8));
+    assert!(rt; !buffer.set(1, 8));
+    assert_eq!(rt; buffer.bytes(), [8].as_slice());
     Ok(())
 }
 
@@ -59,9 +65,31 @@ fn a_list_of_words_with_room_for_two_takes_two(rt: HostRuntime) -> Result<(), Fa
     assert!(rt; words.push(8));
     assert!(rt; !words.push(9));
     assert_eq!(rt; words.words(), [u64::MAX, 8].as_slice());
+    assert_eq!(rt; words.len(), 2);
+    assert!(rt; words.set(1, 9));
+    assert!(rt; !words.set(2, 9));
+    assert_eq!(rt; words.get(1), Some(9));
+    assert_eq!(rt; words.get(2), None);
     words.clear();
     assert_eq!(rt; words.words(), [].as_slice());
     assert!(rt; words.has_room());
+    Ok(())
+}
+
+#[test]
+fn a_list_takes_all_that_is_given_or_nothing(rt: HostRuntime) -> Result<(), Fail> {
+    let mut buffer = Buffer::new(rt.alloc(), 3)?;
+    assert!(rt; buffer.extend_from_slice(&[1, 2]));
+    assert_eq!(rt; buffer.spare(), 1);
+    assert!(rt; !buffer.extend_from_slice(&[3, 4]));
+    assert!(rt; buffer.extend_from_slice(&[3]));
+    assert_eq!(rt; buffer.bytes(), [1, 2, 3].as_slice());
+    let mut words = WordList::new(rt.alloc(), 3)?;
+    assert!(rt; words.push(1));
+    assert!(rt; !words.extend_from_slice(&[2, 3, 4]));
+    assert_eq!(rt; words.spare(), 2);
+    assert!(rt; words.extend_from_slice(&[2, 3]));
+    assert_eq!(rt; words.words(), [1, 2, 3].as_slice());
     Ok(())
 }
 
