@@ -2,3 +2,4 @@ pub mod PlaceLaws
 pub mod MapLaws
 pub mod WithinLaws
 pub mod Worked
+pub mod PackLaws

@@ -9,3 +9,4 @@ pub mod Answer
 pub mod Server
 pub mod Within
 pub mod Views
+pub mod Packed

@@ -9,7 +9,7 @@ use crate::item::{StoredItem, item_of_call, item_with_expiry, item_with_value};
 use crate::number::number_upto;
 use crate::outcome::{Change, Outcome, Seen};
 use crate::replies::{push_decimal, push_end, value_text};
-use crate::text::text;
+use crate::texts::text;
 use sei_code::Memory;
 use std::alloc::Global;
 

@@ -1,4 +1,4 @@
-//! Calls, items, and the plain server of one thread that answers them.
+//! Calls, items, and the plain server of one thread that answers them; and bytes packed into words.
 #![tactic(auto)]
 
 mod bucket;
@@ -10,15 +10,18 @@ mod item;
 mod laws;
 mod number;
 mod outcome;
+mod packing;
 mod replies;
 mod server;
-mod text;
+mod texts;
 
 pub use call::{CallSpan, Room, Span, Verb};
 pub use geometry::Geometry;
 pub use laws::buckets_stay_within_their_room;
 pub use number::number_upto;
+pub use packing::pack;
 pub use server::PlainServer;
+pub use texts::text;
 
 #[cfg(test)]
 mod tests;

@@ -1,4 +1,5 @@
 use super::*;
+use sei_code::WordList;
 use std::test::Fail;
 
 /// A call with nothing but its command, on the first bucket.
@@ -52,6 +53,20 @@ fn a_number_has_a_limit(rt: HostRuntime) {
     assert_eq!(rt; number_upto(255, b"256"), None);
     assert_eq!(rt; number_upto(255, b""), None);
     assert_eq!(rt; number_upto(255, b"-1"), None);
+}
+
+#[test]
+fn nine_bytes_are_two_words(rt: HostRuntime) -> Result<(), Fail> {
+    let packed = [5, 0x3132_3334_3536_3738, 0x3900_0000_0000_0000];
+    let mut words = WordList::new(rt.alloc(), 3)?;
+    assert!(rt; words.push(5));
+    assert!(rt; pack(b"123456789", &mut words));
+    assert_eq!(rt; words.words(), packed.as_slice());
+    assert!(rt; !pack(b"1", &mut words));
+    assert_eq!(rt; words.words(), packed.as_slice());
+    assert!(rt; pack(b"", &mut words));
+    assert_eq!(rt; words.len(), 3);
+    Ok(())
 }
 
 /// What memcached answers to `get a`, `set a 5 0 3` with `abc`, and `get a`.

@@ -8,10 +8,11 @@ use Rattle.mc_model.proofs.MapLaws.{key_cases}
 use Rattle.mc_model.proofs.MapLaws.KeyCases.{Same, Other}
 use Rattle.sei_words.specs.Layout.{width, slot_at, field, hash_offset, key_length_offset, flags_offset, expiry_offset, unique_offset, value_length_offset, key_offset, value_offset}
 use Rattle.sei_words.specs.Free.{IsTaken}
-use Rattle.sei_words.specs.Packed.{AreBytes, words_for, pack, StoredAt}
+use Rattle.mc_model.specs.Packed.{AreBytes, words_for, pack}
+use Rattle.sei_words.specs.Stored.{StoredAt}
 use Rattle.sei_words.specs.Stands.{Reads, StandsFor}
 use Rattle.sei_words.proofs.LayoutLaws.{slot_apart, slot_floor}
-use Rattle.sei_words.proofs.PackLaws.{length_pack}
+use Rattle.mc_model.proofs.PackLaws.{length_pack}
 use Rattle.sei_words.proofs.HoldsLaws.{one_change}
 use Rattle.sei_words.proofs.SlotLaws.{slot_stays, one_key}
 

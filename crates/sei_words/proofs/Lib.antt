@@ -1,6 +1,5 @@
 pub mod LayoutLaws
 pub mod FreshLaws
-pub mod PackLaws
 pub mod HoldsLaws
 pub mod SlotLaws
 pub mod ChangeLaws

@@ -5,10 +5,11 @@ use Rattle.mc_model.specs.declared.geometry.Geometry.{Geometry}
 use Rattle.mc_model.specs.Bucket.{Item}
 use Rattle.sei_words.specs.Layout.{width, slot_at, field}
 use Rattle.sei_words.specs.Free.{is_free, IsTaken}
-use Rattle.sei_words.specs.Packed.{words_for, pack, StoredAt}
+use Rattle.mc_model.specs.Packed.{words_for, pack}
+use Rattle.sei_words.specs.Stored.{StoredAt}
 use Rattle.sei_words.specs.Stands.{Reads}
 use Rattle.sei_words.proofs.LayoutLaws.{width_is}
-use Rattle.sei_words.proofs.PackLaws.{length_pack, pack_apart}
+use Rattle.mc_model.proofs.PackLaws.{length_pack, pack_apart}
 use Rattle.sei_words.proofs.HoldsLaws.{Stays}
 
 -- the words of slot i are as before

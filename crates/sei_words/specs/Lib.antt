@@ -1,6 +1,6 @@
 pub mod Layout
 pub mod Words
 pub mod Free
-pub mod Packed
+pub mod Stored
 pub mod Holds
 pub mod Stands

@@ -5,7 +5,8 @@ use Rattle.mc_model.specs.declared.geometry.Geometry.{Geometry}
 use Rattle.mc_model.specs.Bucket.{Item, Bucket, IsMap, lookup}
 use Rattle.sei_words.specs.Layout.{moment_address, counter_address, word_count, slot_at, field, hash_offset, key_length_offset, flags_offset, expiry_offset, unique_offset, value_length_offset, key_offset, value_offset}
 use Rattle.sei_words.specs.Free.{IsTaken}
-use Rattle.sei_words.specs.Packed.{AreBytes, words_for, pack, StoredAt}
+use Rattle.mc_model.specs.Packed.{AreBytes, words_for, pack}
+use Rattle.sei_words.specs.Stored.{StoredAt}
 use Rattle.sei_words.specs.Holds.{Holds}
 
 -- slot i reads as this key and item. Lengths are in bytes. The words of the key and of the value are

@@ -1,6 +1,7 @@
 -- Bytes packed eight to a word: the first byte is the most significant, and the last word is filled up with zero bytes.
-use Rattle.std.specs.Prelude.{◌≡◌, ℕ, ◌+◌, ◌*◌, ◌/◌, ◌<◌, List, length, map, slice_index, All}
-use Rattle.std.specs.List.{range_with_len}
+use Rattle.std.specs.Prelude.{ℕ, ◌+◌, ◌*◌, ◌/◌, ◌<◌, List, length, map, take, slice_index, All}
+use Rattle.std.specs.List.{range_with_len, flat_map}
+use Rattle.std.specs.Int.{w64, to_be_bytes}
 
 -- a list of bytes
 abbrev pub AreBytes : List ℕ → Type 0
@@ -20,6 +21,6 @@ word_of xs j =
 abbrev pub pack : List ℕ → List ℕ
 pack xs = map (word_of xs) (range_with_len 0 (words_for (length xs)))
 
--- these words stand from this address on
-abbrev pub StoredAt : List ℕ → ℕ → List ℕ → Type 0
-StoredAt words a xs = (j : ℕ) → j < length xs → slice_index words (a + j) ≡ slice_index xs j
+-- the first n bytes that are packed into these words
+abbrev pub unpacked : ℕ → List ℕ → List ℕ
+unpacked n ws = take n (flat_map (to_be_bytes w64) ws)
