@@ -1,0 +1,13 @@
+pub mod Table
+pub mod Handling
+pub mod Machine
+pub mod Slots
+pub mod Statements
+pub mod Honest
+pub mod Order
+pub mod Passes
+pub mod Sound
+pub mod Runs
+pub mod Given
+pub mod Programs
+pub mod Touch

@@ -1,0 +1,69 @@
+-- What a pass works on, and what stays while it works.
+use Rattle.std.specs.Prelude.{ℕ, ◌+◌, Bool, List, Option, slice_index, slice_set}
+use Rattle.sei_code.specs.Kept.{Kept}
+use Rattle.sei_log.specs.declared.log.Change.{Change}
+use Rattle.sei_log.specs.declared.notes.Notes.{Notes}
+use Rattle.sei_fault.specs.declared.cause.AbortCause.{AbortCause}
+use Rattle.sei_fault.specs.Tree.{Tree}
+use Rattle.sei_fault.specs.Tree.Tree.{Done, Ask}
+use Rattle.sei_fault.specs.Question.Question.{Written}
+use Rattle.sei_stmt.specs.declared.stmt.Stmt.{Stmt}
+use Rattle.sei_stmt.specs.Handling.{Parsed}
+
+-- what a pass works on: its registers, lists and output code, how many statements it made, the words
+-- of the bucket that is lent to it (none where no bucket is), its log, and the notes
+pub record Machine : Type 0 where
+  pub registers : List ℕ
+  pub input : Kept ℕ
+  pub output : Kept ℕ
+  pub bytes : Kept ℕ
+  pub code : Option ℕ
+  pub made : ℕ
+  pub words : List ℕ
+  pub log : Kept Change
+  pub notes : Notes
+
+-- what stays through a statement
+pub record Setting : Type 0 where
+  -- whether the noted answers are read, as in the second pass, or made, as in the first
+  pub reading : Bool
+  pub statements : List Stmt
+  -- whether the code of the sealed input is the sealed one
+  pub intact : Bool
+  -- the sealed call of the input, where there is one
+  pub parsed : Option Parsed
+  -- the number of the message that is answered, and the bytes that output words stand for
+  pub answer : ℕ
+  pub rendered : List ℕ → Option (List ℕ)
+  -- the number of the bucket that is lent, how many slots it has, and which are free in which words at which moment
+  pub lent : Option ℕ
+  pub slots : ℕ
+  pub is_free : List ℕ → ℕ → ℕ → Bool
+  -- how many statements a pass may make
+  pub budget : ℕ
+  -- what the clock answers
+  pub now : ℕ
+
+-- where a pass goes on
+pub data Outcome : Type 0 where
+  Next : (index : ℕ) → Outcome
+  Halted : Outcome
+  Bad : (cause : AbortCause) → Outcome
+
+-- a machine, and where the pass goes on from there
+pub record After : Type 0 where
+  pub machine : Machine
+  pub outcome : Outcome
+
+abbrev pub register : Machine → ℕ → ℕ
+register m r = slice_index m.registers r
+
+abbrev pub with_register : Machine → ℕ → ℕ → Machine
+with_register m r v = record m { registers = slice_set m.registers r v }
+
+abbrev pub ends : Machine → Outcome → Tree After
+ends m o = Done (record { machine = m; outcome = o })
+
+-- the register gets the value that is written, and the pass goes on to the next statement
+abbrev pub assign : ℕ → Machine → ℕ → ℕ → Tree After
+assign i m to v = Ask (Written v) (λ w. ends (with_register m to w) (Next (i + 1)))

@@ -1,0 +1,206 @@
+-- What each statement does, as the questions that it asks a core, in order, and what it makes of the answers.
+use Rattle.std.specs.Prelude.{ℕ, ◌+◌, ◌-◌, ◌%◌, ◌^◌, Bool, false, ◌==◌, nat_lt, nat_le, List, [], ◌∷◌, ◌++◌, length, Option, Some, None, is_some, slice_get, slice_set, if◌then◌else◌}
+use Rattle.sei_code.specs.Codes.{message_code}
+use Rattle.sei_code.specs.Coded.{sealed, read_of}
+use Rattle.sei_code.specs.Kept.{has_room, pushed, emptied}
+use Rattle.sei_code.specs.declared.coded.Coded.{Coded}
+use Rattle.sei_fault.specs.declared.cause.AbortCause.TheVariants.{Code, Range, Table, Budget, LogFull, OutFull, Output, Bucket, Notes}
+use Rattle.sei_fault.specs.Tree.{Tree}
+use Rattle.sei_fault.specs.Tree.Tree.{Ask}
+use Rattle.sei_fault.specs.Question.Question.{Value, Written, Test}
+use Rattle.sei_stmt.specs.declared.stmt.Stmt.{Stmt}
+use Rattle.sei_stmt.specs.declared.stmt.Stmt.TheVariants.{Const, Move, Add, Sub, Input, Load, Store, Emit, Jump, JumpEq, JumpLt, Now, Alloc, Parse, Render, Halt}
+use Rattle.sei_stmt.specs.Handling.{Parsed, parsed_words, refilled}
+use Rattle.sei_stmt.specs.Machine.{Machine, Setting, After, register, ends, assign}
+use Rattle.sei_stmt.specs.Machine.Outcome.{Next, Halted, Bad}
+use Rattle.sei_stmt.specs.Slots.{lowest_free, is_admissible}
+use Rattle.sei_stmt.specs.Table.{target}
+
+-- registers
+
+abbrev pub const_tree : ℕ → Machine → ℕ → ℕ → Tree After
+const_tree i m to number = assign i m to number
+
+abbrev pub move_tree : ℕ → Machine → ℕ → ℕ → Tree After
+move_tree i m to from = Ask (Value (register m from)) (λ v. assign i m to v)
+
+abbrev pub add_tree : ℕ → Machine → ℕ → ℕ → ℕ → Tree After
+add_tree i m to left right =
+    Ask (Value (register m left)) (λ a. Ask (Value (register m right)) (λ b. assign i m to ((a + b) % 2 ^ 64)))
+
+abbrev pub sub_tree : ℕ → Machine → ℕ → ℕ → ℕ → Tree After
+sub_tree i m to left right =
+    Ask (Value (register m left)) (λ a. Ask (Value (register m right)) (λ b. assign i m to ((a + 2 ^ 64 - b) % 2 ^ 64)))
+
+-- input words and words of the bucket: a word that is not there is out of range
+
+abbrev pub read_word : ℕ → Machine → ℕ → ℕ → Option ℕ → Tree After
+read_word i m to a None = ends m (Bad (Range a))
+read_word i m to a (Some word) = Ask (Value word) (λ v. assign i m to v)
+
+abbrev pub input_tree : ℕ → Machine → ℕ → ℕ → Tree After
+input_tree i m to index = Ask (Value (register m index)) (λ a. read_word i m to a (slice_get m.input.items a))
+
+abbrev pub load_tree : ℕ → Machine → ℕ → ℕ → Tree After
+load_tree i m to address = Ask (Value (register m address)) (λ a. read_word i m to a (slice_get m.words a))
+
+abbrev pub stored : Machine → ℕ → ℕ → ℕ → ℕ → Machine
+stored m a was becomes w =
+    record m { words = slice_set m.words a w; log = pushed m.log (record { address = a; was = was; becomes = becomes }) }
+
+-- the old value is logged, and then the new one is written
+abbrev pub store_changed : ℕ → Machine → ℕ → ℕ → ℕ → Tree After
+store_changed i m a was v =
+    if has_room m.log
+    then Ask (Written v) (λ w. ends (stored m a was v w) (Next (i + 1)))
+    else ends m (Bad LogFull)
+
+-- what would change nothing is not stored, and not logged
+abbrev pub store_word : ℕ → Machine → ℕ → ℕ → Option ℕ → Tree After
+store_word i m from a None = ends m (Bad (Range a))
+store_word i m from a (Some word) =
+    Ask (Value (register m from)) (λ v. Ask (Value word) (λ was. Ask (Test (was == v)) (λ same.
+    if same then ends m (Next (i + 1)) else store_changed i m a was v)))
+
+abbrev pub store_tree : ℕ → Machine → ℕ → ℕ → Tree After
+store_tree i m address from = Ask (Value (register m address)) (λ a. store_word i m from a (slice_get m.words a))
+
+-- output words
+
+abbrev pub emit_tree : ℕ → Machine → ℕ → Tree After
+emit_tree i m from =
+    if has_room m.output
+    then Ask (Value (register m from)) (λ v. Ask (Written v) (λ w. ends (record m { output = pushed m.output w }) (Next (i + 1))))
+    else ends m (Bad OutFull)
+
+-- jumps
+
+abbrev pub equal_tree : ℕ → Machine → ℕ → ℕ → ℕ → Tree After
+equal_tree i m left right to =
+    Ask (Value (register m left)) (λ a. Ask (Value (register m right)) (λ b. Ask (Test (a == b)) (λ yes.
+    ends m (Next (if yes then to else i + 1)))))
+
+abbrev pub less_tree : ℕ → Machine → ℕ → ℕ → ℕ → Tree After
+less_tree i m left right to =
+    Ask (Value (register m left)) (λ a. Ask (Value (register m right)) (λ b. Ask (Test (nat_lt a b)) (λ yes.
+    ends m (Next (if yes then to else i + 1)))))
+
+-- the time: the first pass asks the clock and notes its answer, the second goes by the note
+
+abbrev pub note_now : Machine → ℕ → Machine
+note_now m now = record m { notes = record m.notes { now = Some (sealed now) } }
+
+abbrev pub noted_value : ℕ → Machine → ℕ → Option ℕ → Tree After
+noted_value i m to None = ends m (Bad Code)
+noted_value i m to (Some n) = Ask (Value n) (λ v. assign i m to v)
+
+abbrev pub noted_now : ℕ → Machine → ℕ → Option Coded → Tree After
+noted_now i m to None = ends m (Bad Notes)
+noted_now i m to (Some note) = noted_value i m to (read_of note)
+
+abbrev pub now_tree : Setting → ℕ → Machine → ℕ → Tree After
+now_tree g i m to =
+    if g.reading then noted_now i m to m.notes.now
+    else Ask (Value g.now) (λ v. assign i (note_now m g.now) to v)
+
+-- a free slot: the first pass takes the lowest one and notes it, the second tests that the noted one may answer
+
+abbrev pub note_slot : Machine → ℕ → Machine
+note_slot m slot = record m { notes = record m.notes { slot = Some (sealed slot) } }
+
+abbrev pub lowest_slot : ℕ → Machine → ℕ → ℕ → Tree After
+lowest_slot i m to slot = Ask (Value slot) (λ v. assign i (note_slot m slot) to v)
+
+abbrev pub noted_slot_value : Setting → ℕ → Machine → ℕ → ℕ → Option ℕ → Tree After
+noted_slot_value g i m to moment None = ends m (Bad Code)
+noted_slot_value g i m to moment (Some slot) =
+    Ask (Test (is_admissible g m.words moment slot)) (λ fit.
+    if fit then Ask (Value slot) (λ v. assign i m to v) else ends m (Bad Notes))
+
+abbrev pub noted_slot : Setting → ℕ → Machine → ℕ → ℕ → Option Coded → Tree After
+noted_slot g i m to moment None = ends m (Bad Notes)
+noted_slot g i m to moment (Some note) = noted_slot_value g i m to moment (read_of note)
+
+abbrev pub alloc_from : Setting → ℕ → Machine → ℕ → ℕ → Tree After
+alloc_from g i m to moment =
+    if g.reading then noted_slot g i m to moment m.notes.slot else lowest_slot i m to (lowest_free g m.words moment)
+
+abbrev pub alloc_tree : Setting → ℕ → Machine → ℕ → ℕ → Tree After
+alloc_tree g i m to moment = Ask (Value (register m moment)) (λ t. alloc_from g i m to t)
+
+-- the input: its code, then its call, then the call's bucket are tested, and the call fills the input words
+
+-- a bucket is lent, and is the call's
+abbrev pub is_lent : Option ℕ → Option Parsed → Bool
+is_lent None call = false
+is_lent (Some bucket) None = false
+is_lent (Some bucket) (Some call) = bucket == call.bucket
+
+abbrev pub parse_first : ℕ → Machine → List ℕ → Tree After
+parse_first i m [] = ends m (Next (i + 1))
+parse_first i m (word ∷ words) = Ask (Written word) (λ w. ends (record m { input = refilled m.input (w ∷ words) }) (Next (i + 1)))
+
+abbrev pub parse_bucket : Setting → ℕ → Machine → Tree After
+parse_bucket g i m = Ask (Test (is_lent g.lent g.parsed)) (λ yes. if yes then parse_first i m m.input.items else ends m (Bad Bucket))
+
+abbrev pub parse_call : Setting → ℕ → Machine → Tree After
+parse_call g i m = Ask (Test (is_some g.parsed)) (λ yes. if yes then parse_bucket g i m else ends m (Bad Code))
+
+abbrev pub parse_tree : Setting → ℕ → Machine → Tree After
+parse_tree g i m =
+    Ask (Test g.intact) (λ yes.
+    if yes then parse_call g i (record m { input = refilled m.input (parsed_words g.parsed) }) else ends m (Bad Code))
+
+-- the output bytes: each output word is read, and the bytes are made of what was read
+
+abbrev pub store_bytes : ℕ → Machine → List ℕ → Tree After
+store_bytes i m [] = ends (record m { bytes = emptied m.bytes }) (Next (i + 1))
+store_bytes i m (byte ∷ bytes) =
+    Ask (Written byte) (λ w. ends (record m { bytes = refilled m.bytes (w % 2 ^ 8 ∷ bytes) }) (Next (i + 1)))
+
+abbrev pub render_bytes : Setting → ℕ → Machine → Option (List ℕ) → Tree After
+render_bytes g i m None = ends (record m { bytes = emptied m.bytes }) (Bad Output)
+render_bytes g i m (Some bytes) =
+    if nat_le (length bytes) m.bytes.room
+    then store_bytes i (record m { code = Some (message_code g.answer bytes) }) bytes
+    else ends (record m { bytes = emptied m.bytes }) (Bad OutFull)
+
+-- read are the words that were read so far
+abbrev pub render_words : Setting → ℕ → Machine → List ℕ → List ℕ → Tree After
+render_words g i m read [] = render_bytes g i m (g.rendered read)
+render_words g i m read (word ∷ words) = Ask (Value word) (λ v. render_words g i m (read ++ v ∷ []) words)
+
+abbrev pub render_tree : Setting → ℕ → Machine → Tree After
+render_tree g i m = render_words g i m [] m.output.items
+
+-- statement i of the table
+abbrev pub statement_tree : Setting → ℕ → Machine → Stmt → Tree After
+statement_tree g i m (Const to number) = const_tree i m to number
+statement_tree g i m (Move to from) = move_tree i m to from
+statement_tree g i m (Add to left right) = add_tree i m to left right
+statement_tree g i m (Sub to left right) = sub_tree i m to left right
+statement_tree g i m (Input to index) = input_tree i m to index
+statement_tree g i m (Load to address) = load_tree i m to address
+statement_tree g i m (Store address from) = store_tree i m address from
+statement_tree g i m (Emit from) = emit_tree i m from
+statement_tree g i m (Jump offset) = ends m (Next (target i offset))
+statement_tree g i m (JumpEq left right offset) = equal_tree i m left right (target i offset)
+statement_tree g i m (JumpLt left right offset) = less_tree i m left right (target i offset)
+statement_tree g i m (Now to) = now_tree g i m to
+statement_tree g i m (Alloc to moment) = alloc_tree g i m to moment
+statement_tree g i m Parse = parse_tree g i m
+statement_tree g i m Render = render_tree g i m
+statement_tree g i m Halt = ends m Halted
+
+-- each statement that is made is counted, and the one that would exceed the budget is not made
+abbrev pub counted_tree : Setting → ℕ → Machine → Stmt → Tree After
+counted_tree g i m s =
+    if nat_lt m.made g.budget then statement_tree g i (record m { made = m.made + 1 }) s else ends m (Bad Budget)
+
+abbrev pub found_tree : Setting → ℕ → Machine → Option Stmt → Tree After
+found_tree g i m None = ends m (Bad (Table i))
+found_tree g i m (Some s) = counted_tree g i m s
+
+-- one step of a pass at this index
+abbrev pub step_tree : Setting → ℕ → Machine → Tree After
+step_tree g i m = found_tree g i m (slice_get g.statements i)
