@@ -1,0 +1,5 @@
+pub mod FreeLaws
+pub mod ParseLaws
+pub mod RenderLaws
+pub mod RoomLaws
+pub mod StepLaws

@@ -1,0 +1,54 @@
+-- What one step of a pass does.
+use Rattle.std.specs.Prelude.{◌≡◌, ℕ, suc, ◌^◌, ◌<◌, Option, Some, None, ⊤}
+use Rattle.sei_code.specs.Kept.{Kept}
+use Rattle.sei_fault.specs.Counts.{Counts}
+use Rattle.sei_fault.specs.Question.{Question, Answer}
+use Rattle.sei_fault.specs.Tree.{Runs}
+use Rattle.sei_log.specs.declared.log.Change.{Change}
+use Rattle.sei_log.specs.declared.notes.Notes.{Notes}
+use Rattle.sei_stmt.specs.declared.stmt.Stmt.{Stmt}
+use Rattle.sei_stmt.specs.declared.stmt.Stmt.TheVariants.{Now}
+use Rattle.sei_stmt.specs.Machine.{Machine, Setting, Outcome}
+use Rattle.sei_stmt.specs.Machine.Outcome.{Next}
+use Rattle.sei_stmt.specs.Statements.{step_tree}
+use Rattle.sei_stmt.specs.Honest.{IsOnWay}
+use Rattle.sei_words.specs.Words.{BucketWords}
+use Rattle.sei_pass.specs.declared.given.Which.{Which}
+use Rattle.sei_pass.specs.declared.given.Which.TheVariants.{Making, Reading}
+use Rattle.sei_pass.specs.State.{PassState}
+use Rattle.sei_pass.specs.Loan.{words_of}
+
+-- the machine of a pass, with what is lent, the log and the notes
+abbrev pub machine_of : PassState → Option BucketWords → Kept Change → Notes → Machine
+machine_of p loan log notes = record {
+  registers = p.registers;
+  input = p.input;
+  output = p.output;
+  bytes = p.bytes;
+  code = p.code;
+  made = p.made;
+  words = words_of loan;
+  log = log;
+  notes = notes;
+}
+
+-- what a clock may answer: what it tells, where it tells, and else any number of 64 bits
+abbrev pub IsAnswer : Option ℕ → ℕ → Type 0
+IsAnswer None now = now < 2 ^ 64
+IsAnswer (Some told) now = now ≡ told
+
+-- a statement that asks the clock is given its answer
+abbrev pub IsAsked : Which → Stmt → Option ℕ → ℕ → Type 0
+IsAsked Making (Now to) told now = IsAnswer told now
+IsAsked Making s told now = ⊤
+IsAsked Reading s told now = ⊤
+
+-- a step from one machine to another, and a core's state from s to t: for some answer of the clock
+-- the machine does what the statement's tree says, and a pass that was on its way still is
+pub record Stepped {S : Type 0} (gives : S → (q : Question) → Answer q → S → Type 0) (counts : S → Counts) (told : Option ℕ) (setting : ℕ → Setting) (index : ℕ) (old new : Machine) (o : Outcome) (s t : S) : Type 0 where
+  pub now : ℕ
+  pub answer : IsAnswer told now
+  pub runs : Runs gives (step_tree (setting now) index old) s t (record { machine = new; outcome = o })
+  pub on_way : (start : Machine) (n : ℕ) (begin : Counts) →
+      IsOnWay (setting now) start n (record { machine = old; outcome = Next index }) begin (counts s) →
+      IsOnWay (setting now) start (suc n) (record { machine = new; outcome = o }) begin (counts t)

@@ -1,0 +1,83 @@
+//! The registers and lists that statements work on.
+ghost use Rattle.std.specs.Prelude.{◌≡◌, ℕ, IfOk, None, replicate};
+ghost use Rattle.mc_model.specs.Server.{IsValid};
+ghost use Rattle.sei_code.specs.Kept.{empty_kept, emptied};
+ghost use Rattle.sei_pass.specs.State.{input_room, output_room, bytes_room};
+
+use mc_model::Geometry;
+use sei_code::{Buffer, Memory, WordList};
+use sei_fault::AbortCause;
+use std::alloc::Global;
+
+/// How many registers there are.
+pub const REGISTERS: usize = 32;
+
+/// Where a pass goes on after a statement.
+#[derive(Clone, Copy, Debug, PartialEq, Eq)]
+pub enum PassStep {
+    /// At the statement with this index, from 0.
+    Next {
+        /// The index.
+        index: u64,
+    },
+    /// Nowhere: the pass has ended.
+    Halted,
+    /// Nowhere: the traversal aborts.
+    Bad(AbortCause),
+}
+
+/// What a pass works on by itself.
+#[derive(Drop)]
+pub struct Frame {
+    pub registers: [u64; REGISTERS],
+    pub input: WordList,
+    pub output: WordList,
+    pub bytes: Buffer,
+    /// The code of the output bytes, once they were made.
+    pub code: Option<u64>,
+    /// How many statements were made.
+    pub made: u64,
+}
+
+impl Frame {
+    /// Before the first statement.
+    pub fn new(alloc: Global, g: &Geometry) -> Result<Frame, Memory>
+        requires { IsValid g.now }
+        ensures { IfOk result (λ frame. frame ≡ record {
+          registers = replicate 32 0;
+          input = empty_kept ℕ (input_room g.now);
+          output = empty_kept ℕ (output_room g.now);
+          bytes = empty_kept ℕ (bytes_room g.now);
+          code = None;
+          made = 0;
+        }) }
+    {
+        Ok(Frame {
+            registers: [0; REGISTERS],
+            input: WordList::new(alloc, (46 + g.value_words) as usize)?,
+            output: WordList::new(alloc, (48 + g.value_words) as usize)?,
+            bytes: Buffer::new(alloc, (8 * g.value_words + 320) as usize)?,
+            code: None,
+            made: 0,
+        })
+    }
+
+    /// Makes it as it was before the first statement.
+    pub fn clear(&mut self)
+        ensures { self.new ≡ record {
+          registers = replicate 32 0;
+          input = emptied self.old.input;
+          output = emptied self.old.output;
+          bytes = emptied self.old.bytes;
+          code = None;
+          made = 0;
+        } }
+    {
+        self.registers = [0; REGISTERS];
+        self.input.clear();
+        self.output.clear();
+        self.bytes.clear();
+        self.code = None;
+        self.made = 0;
+    }
+}

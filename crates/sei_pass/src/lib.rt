@@ -1,0 +1,20 @@
+//! One pass over a table of statements: what each statement does, with each of its effects asked of
+//! a core.
+#![tactic(auto)]
+
+mod acts;
+mod answers;
+mod frame;
+mod given;
+mod lent;
+mod memory;
+mod output;
+mod pass;
+mod registers;
+mod step;
+#[cfg(test)]
+mod tests;
+
+pub use frame::PassStep;
+pub use given::{Sealed, Which};
+pub use pass::Pass;

@@ -1,0 +1,200 @@
+//! A pass.
+ghost use Rattle.std.specs.Prelude.{◌≡◌, ℕ, ◌+◌, ◌≤◌, IfOk, length, Option, slice_get};
+ghost use Rattle.std.specs.Option.{option_map};
+ghost use Rattle.mc_model.specs.Server.{IsValid};
+ghost use Rattle.sei_stmt.specs.Handling.{parsed_words};
+ghost use Rattle.sei_pass.specs.Acts.{act_of};
+ghost use Rattle.sei_pass.specs.State.{IsPass, new_pass};
+ghost use Rattle.sei_pass.specs.Loan.{place_of, IsOf};
+ghost use Rattle.sei_pass.specs.Exits.{lent_at, lent_left};
+ghost use Rattle.sei_pass.specs.Setting.{sealed_call, setting_of};
+ghost use Rattle.sei_pass.specs.Frames.{outcome_of};
+ghost use Rattle.sei_pass.specs.Steps.{machine_of, Stepped};
+
+use crate::frame::{Frame, PassStep};
+use crate::given::{Sealed, Which};
+use crate::lent::{Lent, NoBucket};
+use mc_model::Geometry;
+use sei_code::{Memory, WordList};
+use sei_fault::{Act, Core};
+use sei_log::{Notes, WriteLog};
+use sei_outside::Clock;
+use sei_stmt::Handler;
+use sei_words::Words;
+use std::alloc::Global;
+use std::marker::Model;
+
+/// One pass over a table: its registers, its input words, its output words and bytes, the output
+/// code, and how many statements it made.
+#[derive(Drop)]
+pub struct Pass {
+    frame: Frame,
+    /// Where `Render` puts the output words that it reads.
+    scratch: WordList,
+    geometry: Geometry,
+}
+
+impl Model for Pass {
+    ghost use Rattle.sei_pass.specs.Acts.{act_of};
+    ghost use Rattle.sei_pass.specs.State.{PassState, IsBuilt};
+
+    ghost Value = { PassState };
+
+    ghost view = { λ p. record {
+      registers = p.frame.registers;
+      input = p.frame.input;
+      output = p.frame.output;
+      bytes = p.frame.bytes;
+      code = p.frame.code;
+      made = p.frame.made;
+      geometry = p.geometry;
+    } };
+
+    ghost invariant = { λ p. IsBuilt (record {
+      registers = p.frame.registers;
+      input = p.frame.input;
+      output = p.frame.output;
+      bytes = p.frame.bytes;
+      code = p.frame.code;
+      made = p.frame.made;
+      geometry = p.geometry;
+    }) p.scratch };
+}
+
+impl Pass {
+    /// A pass before its first statement, with the room that each call of this geometry needs.
+    /// Nothing is allocated afterwards.
+    pub fn new(alloc: Global, g: &Geometry) -> Result<Pass, Memory>
+        requires { IsValid g.now }
+        ensures { IfOk result (λ pass. pass ≡ new_pass g.now) }
+    {
+        Ok(Pass {
+            frame: Frame::new(alloc, g)?,
+            scratch: WordList::new(alloc, (48 + g.value_words) as usize)?,
+            geometry: *g,
+        })
+    }
+
+    /// Makes it as it was before its first statement.
+    pub fn clear(&mut self)
+        ensures { self.new ≡ new_pass self.old.geometry }
+    {
+        self.frame.clear();
+    }
+
+    /// The code of the output bytes, or `None` where they were not made.
+    pub fn code(&self) -> Option<u64>
+        ensures value { result ≡ self.now.code }
+        ensures pass { IsPass self.now }
+    {
+        self.frame.code
+    }
+
+    /// The output bytes.
+    pub fn bytes(&self) -> &[u8]
+        ensures { result.now ≡ self.now.bytes.items }
+    {
+        self.frame.bytes.bytes()
+    }
+
+    /// What the statement at `index` of the table does, or `None` where there is no such statement.
+    pub fn act<H: Handler>(&self, hands: &H, index: u64) -> Option<Act>
+        ensures { result ≡ option_map (act_of self.now.registers) (slice_get (H.statements hands.now) index) }
+    {
+        match hands.table().get(index) {
+            None => None,
+            Some(statement) => Some(self.frame.act(statement)),
+        }
+    }
+
+    /// Makes the statement at `index` of the table, counted from 0, with each of its effects asked
+    /// of `core`. `lent` are the words of the bucket that is lent, where one is.
+    ///
+    /// It aborts with `Table` where there is no such statement, with `Budget` where the pass has
+    /// made as many statements as it may, and else as the statement does.
+    pub fn step<H: Handler, K: Core, C: Clock>(
+        &mut self,
+        which: Which,
+        hands: &H,
+        input: &[u8],
+        sealed: &Sealed,
+        lent: Option<&mut Words>,
+        log: &mut WriteLog,
+        notes: &mut Notes,
+        core: &mut K,
+        clock: &C,
+        index: u64,
+    ) -> PassStep
+        // The input words have room for what the hands make of the input.
+        requires room { length (parsed_words (sealed_call (H.parsed hands.now input.now) sealed.now.nth)) ≤ self.old.input.room }
+        // What is lent is of the pass's geometry.
+        requires lent { IsOf self.old.geometry (lent_at lent) }
+        ensures stepped { Stepped K.gives K.counts (C.told clock.now)
+            (setting_of which (H.statements hands.now) (H.parsed hands.now) (H.rendered hands.now) input.now sealed.now (lent_at lent.entry) self.old.geometry)
+            index (machine_of self.old (lent_at lent.entry) log.old notes.old)
+            (machine_of self.new (lent_left lent.exit) log.new notes.new) (outcome_of result) core.old core.new }
+        ensures lent { place_of (lent_left lent.exit) ≡ place_of (lent_at lent.entry) }
+        ensures geometry { self.new.geometry ≡ self.old.geometry }
+        ensures pass { IsPass self.new }
+        ensures log { log.new.room ≡ log.old.room }
+    {
+        match lent {
+            None => self.step_on(
+                which,
+                hands,
+                input,
+                sealed,
+                &mut NoBucket,
+                log,
+                notes,
+                core,
+                clock,
+                index,
+            ),
+            Some(words) => self.step_on(
+                which, hands, input, sealed, words, log, notes, core, clock, index,
+            ),
+        }
+    }
+
+    /// The step, with what is lent.
+    fn step_on<H: Handler, L: Lent, K: Core, C: Clock>(
+        &mut self,
+        which: Which,
+        hands: &H,
+        input: &[u8],
+        sealed: &Sealed,
+        lent: &mut L,
+        log: &mut WriteLog,
+        notes: &mut Notes,
+        core: &mut K,
+        clock: &C,
+        index: u64,
+    ) -> PassStep
+        requires room { length (parsed_words (sealed_call (H.parsed hands.now input.now) sealed.now.nth)) ≤ self.old.input.room }
+        requires lent { IsOf self.old.geometry (L.loan lent.old) }
+        ensures stepped { Stepped K.gives K.counts (C.told clock.now)
+            (setting_of which (H.statements hands.now) (H.parsed hands.now) (H.rendered hands.now) input.now sealed.now (L.loan lent.old) self.old.geometry)
+            index (machine_of self.old (L.loan lent.old) log.old notes.old)
+            (machine_of self.new (L.loan lent.new) log.new notes.new) (outcome_of result) core.old core.new }
+        ensures lent { place_of (L.loan lent.new) ≡ place_of (L.loan lent.old) }
+        ensures geometry { self.new.geometry ≡ self.old.geometry }
+        ensures pass { IsPass self.new }
+        ensures log { log.new.room ≡ log.old.room }
+    {
+        self.frame.step(
+            which,
+            hands,
+            input,
+            sealed,
+            lent,
+            &self.geometry,
+            log,
+            notes,
+            &mut self.scratch,
+            core,
+            clock,
+            index,
+        )
+    }
+}

@@ -1,0 +1,191 @@
+//! Passes over small tables, with the plain core and a clock that is set.
+ghost use Rattle.sei_pass.specs.Loan.{IsOf};
+ghost use Rattle.sei_pass.specs.Exits.{lent_at};
+
+use super::*;
+use mc_model::Geometry;
+use sei_code::{Buffer, Coded, Rendered, WordList, message_code};
+use sei_fault::{AbortCause, Act, PlainCore};
+use sei_log::{Notes, WriteLog};
+use sei_outside::SetClock;
+use sei_stmt::{Handler, Stmt, Table};
+use sei_words::Words;
+use std::test::Fail;
+
+const SMALL: Geometry = Geometry {
+    buckets: 1,
+    slots: 1,
+    value_words: 3,
+};
+
+/// Reads each input as one call of bucket 0 with the one input word 7, and answers `A`.
+#[derive(Drop)]
+struct Service {
+    table: Table,
+}
+
+impl Handler for Service {
+    ghost use Rattle.std.specs.Prelude.{[], ◌∷◌, Some};
+
+    ghost statements = { λ s. s.table };
+
+    ghost call_count = { λ _ _. Some 1 };
+
+    ghost parsed = { λ _ _ _. Some (record { bucket = 0; words = 7 ∷ [] }) };
+
+    ghost rendered = { λ _ _. Some (65 ∷ []) };
+
+    fn calls(&self, _input: &[u8]) -> Option<u64> {
+        Some(1)
+    }
+
+    fn bucket(&self, _input: &[u8], _nth: u64) -> Option<u64> {
+        Some(0)
+    }
+
+    fn parse(&self, _input: &[u8], _nth: u64, into: &mut WordList) -> Option<u64> {
+        into.clear();
+        into.push(7);
+        Some(0)
+    }
+
+    fn table(&self) -> &Table {
+        &self.table
+    }
+
+    fn render(&self, _words: &[u64], into: &mut Buffer) -> Rendered {
+        into.clear();
+        if into.push(b'A') {
+            Rendered::Done
+        } else {
+            Rendered::Full
+        }
+    }
+}
+
+/// The input `x` as message 2, whose reply is message 5.
+fn sealed() -> Sealed {
+    Sealed {
+        number: 2,
+        nth: Coded::seal(0),
+        code: message_code(2, b"x"),
+        answer: 5,
+    }
+}
+
+/// One step of the first pass, at second 1000.
+fn make(
+    pass: &mut Pass,
+    service: &Service,
+    lent: Option<&mut Words>,
+    log: &mut WriteLog,
+    notes: &mut Notes,
+    index: u64,
+) -> PassStep
+    requires { IsOf pass.old.geometry (lent_at lent) }
+{
+    let _code = pass.code();
+    let mut core = PlainCore::new();
+    let clock = SetClock { at: 1000 };
+    let sealed = sealed();
+    pass.step(
+        Which::Making,
+        service,
+        b"x",
+        &sealed,
+        lent,
+        log,
+        notes,
+        &mut core,
+        &clock,
+        index,
+    )
+}
+
+fn serving(rt: HostRuntime, stmts: &[Stmt]) -> Result<Service, Fail> {
+    let mut list = Vec::new(rt.alloc());
+    list.extend_from_slice(stmts)?;
+    let table = Table::new(list)?;
+    Ok(Service { table })
+}
+
+const NO_NOTES: Notes = Notes {
+    now: None,
+    slot: None,
+};
+
+#[test]
+fn a_pass_answers_and_halts(rt: HostRuntime) -> Result<(), Fail> {
+    let alloc = rt.alloc();
+    let service = serving(
+        rt,
+        &[
+            Stmt::Parse,
+            Stmt::Now { to: 3 },
+            Stmt::Const { to: 1, number: 5 },
+            Stmt::Emit { from: 1 },
+            Stmt::Render,
+            Stmt::Store {
+                address: 3,
+                from: 1,
+            },
+            Stmt::Halt,
+        ],
+    )?;
+    let mut pass = Pass::new(alloc, &SMALL)?;
+    let mut words = Words::new(alloc, &SMALL, 0)?;
+    let mut log = WriteLog::new(alloc, 4)?;
+    let mut notes = NO_NOTES;
+    let first = make(
+        &mut pass,
+        &service,
+        Some(&mut words),
+        &mut log,
+        &mut notes,
+        0,
+    );
+    assert_eq!(rt; first, PassStep::Next { index: 1 });
+    for index in 1..5 {
+        let step = make(&mut pass, &service, None, &mut log, &mut notes, index);
+        assert_eq!(rt; step, PassStep::Next { index: index + 1 });
+    }
+    assert_eq!(rt; notes.now, Some(Coded::seal(1000)));
+    assert_eq!(rt; pass.bytes(), b"A".as_slice());
+    assert_eq!(rt; pass.code(), Some(message_code(5, b"A")));
+    assert_eq!(rt; pass.act(&service, 5), Some(Act::Store(1000)));
+    let range = PassStep::Bad(AbortCause::Range { address: 1000 });
+    assert_eq!(rt;
+        make(&mut pass, &service, None, &mut log, &mut notes, 5),
+        range
+    );
+    assert_eq!(rt;
+        make(&mut pass, &service, None, &mut log, &mut notes, 6),
+        PassStep::Halted
+    );
+    let behind = PassStep::Bad(AbortCause::Table { index: 7 });
+    assert_eq!(rt;
+        make(&mut pass, &service, None, &mut log, &mut notes, 7),
+        behind
+    );
+    assert_eq!(rt; pass.act(&service, 7), None);
+    pass.clear();
+    assert_eq!(rt; pass.code(), None);
+    Ok(())
+}
+
+/// 2,000 statements, 400 for its slot, and 100 for each of its value words.
+#[test]
+fn a_pass_ends_with_its_budget(rt: HostRuntime) -> Result<(), Fail> {
+    let alloc = rt.alloc();
+    let service = serving(rt, &[Stmt::Jump { offset: -1 }, Stmt::Halt])?;
+    let mut pass = Pass::new(alloc, &SMALL)?;
+    let mut log = WriteLog::new(alloc, 4)?;
+    let mut notes = NO_NOTES;
+    for _ in 0..2700 {
+        let step = make(&mut pass, &service, None, &mut log, &mut notes, 0);
+        assert_eq!(rt; step, PassStep::Next { index: 0 });
+    }
+    let step = make(&mut pass, &service, None, &mut log, &mut notes, 0);
+    assert_eq!(rt; step, PassStep::Bad(AbortCause::Budget));
+    Ok(())
+}
