@@ -1,0 +1,6 @@
+pub mod PackedLaws
+pub mod ReaderLaws
+pub mod ShorterLaws
+pub mod RenderedLaws
+pub mod UnpackLaws
+pub mod OutputLaws

@@ -1,0 +1,23 @@
+//! Laws of the definitions: a function that does nothing, whose clauses are proved once and for all.
+
+ghost use Rattle.std.specs.Prelude.{◌≡◌, ℕ, ◌<◌, ◌≤◌, ◌==◌, List, [], ◌∷◌, ◌++◌, length};
+ghost use Rattle.std.specs.Option.{option_map};
+ghost use Rattle.std.specs.Fmt.{decimal};
+ghost use Rattle.mc_model.specs.Bucket.{Item};
+ghost use Rattle.mc_model.specs.Packed.{AreBytes, pack};
+ghost use Rattle.mc_model.specs.Replies.{value_text};
+ghost use Rattle.mc_model.specs.Texts.{line, text_line};
+ghost use Rattle.mc_render.specs.Rendering.{rendered};
+
+/// What each kind of output renders to, followed by what the words behind it render to.
+pub fn words_render_in_order()
+    ensures none { (limit : ℕ) → rendered limit [] ≡ Some [] }
+    ensures text { (limit n : ℕ) (ws : List ℕ) → n < 17
+        → rendered limit (0 ∷ n ∷ ws) ≡ option_map (λ bs. text_line n ++ bs) (rendered limit ws) }
+    ensures number { (limit n : ℕ) (ws : List ℕ)
+        → rendered limit (2 ∷ n ∷ ws) ≡ option_map (λ bs. line (decimal n) ++ bs) (rendered limit ws) }
+    ensures value { (limit cas : ℕ) (key : List ℕ) (x : Item) (ws : List ℕ)
+        → cas ≤ 1 → AreBytes key → 1 ≤ length key → length key ≤ 250 → AreBytes x.value → length x.value ≤ limit
+        → rendered limit (1 ∷ cas ∷ length key ∷ x.flags ∷ length x.value ∷ x.unique ∷ (pack key ++ (pack x.value ++ ws)))
+        ≡ option_map (λ bs. value_text (cas == 1) key x ++ bs) (rendered limit ws) }
+{}

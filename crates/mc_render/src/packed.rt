@@ -1,0 +1,74 @@
+//! Bytes that are packed into words.
+ghost use Rattle.std.specs.Prelude.{◌≡◌, ◌++◌, ◌+◌, ◌<◌, ◌≤◌, length, IfOk, IfErr};
+ghost use Rattle.std.specs.Option.{option_map};
+ghost use Rattle.mc_render.specs.Outputs.{first_bytes};
+
+use crate::put::{NoRoom, put};
+use sei_code::Buffer;
+use std::marker::Model;
+
+/// Bytes packed eight to a word, the first one the most significant. What fills the last word is
+/// not looked at.
+#[derive(Drop)]
+pub struct Packed<'a> {
+    words: &'a [u64],
+    /// How many bytes.
+    count: usize,
+}
+
+impl<'a> Model for Packed<'a> {
+    ghost use Rattle.std.specs.Prelude.{List, ℕ, ◌*◌, ◌≤◌, length};
+    ghost use Rattle.mc_model.specs.Packed.{unpacked};
+
+    ghost Value = { List ℕ };
+
+    ghost view = { λ p. unpacked p.count p.words.now };
+
+    ghost invariant = { λ p. p.count ≤ 8 * length p.words.now };
+}
+
+impl<'a> Packed<'a> {
+    /// How many bytes there are.
+    #[tactic(auto, using(crate::proofs::PackedLaws::length_unpacked))]
+    pub fn len(&self) -> usize
+        ensures { result ≡ length self.now }
+    {
+        self.count
+    }
+}
+
+/// The first `length` bytes that are packed into the words, and the words behind them, or none
+/// where the words are too few.
+#[tactic(auto, using(crate::proofs::PackedLaws::unpacked_front))]
+pub fn first_bytes(words: &[u64], length: usize) -> Option<(Packed<'_>, &[u64])>
+    ensures { option_map (λ p. (p.0, p.1.now)) result ≡ first_bytes length words.now }
+{
+    let taken = length.div_ceil(8);
+    if taken > words.len() {
+        return None;
+    }
+    let (front, rest) = words.split_at(taken);
+    Some((
+        Packed {
+            words: front,
+            count: length,
+        },
+        rest,
+    ))
+}
+
+/// Puts the bytes behind those in the buffer.
+pub fn put_packed(into: &mut Buffer, packed: &Packed<'_>) -> Result<(), NoRoom>
+    ensures items { IfOk result (λ _. into.new.items ≡ into.old.items ++ packed.now) }
+    ensures within { IfOk result (λ _. length into.old.items ≤ into.old.room → length into.new.items ≤ into.old.room) }
+    ensures full { IfErr result (λ _. into.old.room < length into.old.items + length packed.now) }
+    ensures room { into.new.room ≡ into.old.room }
+{
+    let mut left = packed.count;
+    for word in packed.words {
+        let count = left.min(8);
+        put(into, &word.to_be_bytes()[..count])?;
+        left -= count;
+    }
+    Ok(())
+}

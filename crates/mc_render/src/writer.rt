@@ -1,0 +1,76 @@
+//! Outputs written as the bytes of a reply.
+ghost use Rattle.std.specs.Prelude.{◌≡◌, ◌++◌, ◌+◌, ◌<◌, ◌≤◌, length, codes, IfOk, IfErr};
+ghost use Rattle.std.specs.Fmt.{decimal};
+ghost use Rattle.mc_model.specs.Texts.{line};
+ghost use Rattle.mc_render.specs.Outputs.{value_head, output_text, IsKnown};
+
+use crate::output::{Output, ShownItem};
+use crate::packed::put_packed;
+use crate::put::{NoRoom, put, put_decimal};
+use mc_model::text;
+use sei_code::Buffer;
+
+/// A space and the number.
+fn put_field(into: &mut Buffer, number: u64) -> Result<(), NoRoom>
+    ensures items { IfOk result (λ _. into.new.items ≡ into.old.items ++ codes " " ++ decimal number) }
+    ensures within { IfOk result (λ _. length into.old.items ≤ into.old.room → length into.new.items ≤ into.old.room) }
+    ensures full { IfErr result (λ _. into.old.room < length into.old.items + length (codes " " ++ decimal number)) }
+    ensures room { into.new.room ≡ into.old.room }
+{
+    put(into, b" ")?;
+    put_decimal(into, number)
+}
+
+/// The line above a value, without its end.
+fn put_head(into: &mut Buffer, shown: &ShownItem<'_>) -> Result<(), NoRoom>
+    ensures items { IfOk result (λ _. into.new.items ≡ into.old.items ++ value_head shown.now) }
+    ensures within { IfOk result (λ _. length into.old.items ≤ into.old.room → length into.new.items ≤ into.old.room) }
+    ensures full { IfErr result (λ _. into.old.room < length into.old.items + length (value_head shown.now)) }
+    ensures room { into.new.room ≡ into.old.room }
+{
+    put(into, b"VALUE ")?;
+    put_packed(into, &shown.key)?;
+    put_field(into, shown.flags)?;
+    put_field(into, shown.value.len() as u64)?;
+    if shown.with_unique {
+        put_field(into, shown.unique)?;
+    }
+    Ok(())
+}
+
+fn put_value(into: &mut Buffer, shown: &ShownItem<'_>) -> Result<(), NoRoom>
+    ensures items { IfOk result (λ _. into.new.items ≡ into.old.items ++ line (value_head shown.now) ++ line shown.now.item.value) }
+    ensures within { IfOk result (λ _. length into.old.items ≤ into.old.room → length into.new.items ≤ into.old.room) }
+    ensures full { IfErr result (λ _. into.old.room < length into.old.items + length (line (value_head shown.now) ++ line shown.now.item.value)) }
+    ensures room { into.new.room ≡ into.old.room }
+{
+    put_head(into, shown)?;
+    put(into, b"\r\n")?;
+    put_packed(into, &shown.value)?;
+    put(into, b"\r\n")
+}
+
+fn put_number(into: &mut Buffer, number: u64) -> Result<(), NoRoom>
+    ensures items { IfOk result (λ _. into.new.items ≡ into.old.items ++ line (decimal number)) }
+    ensures within { IfOk result (λ _. length into.old.items ≤ into.old.room → length into.new.items ≤ into.old.room) }
+    ensures full { IfErr result (λ _. into.old.room < length into.old.items + length (line (decimal number))) }
+    ensures room { into.new.room ≡ into.old.room }
+{
+    put_decimal(into, number)?;
+    put(into, b"\r\n")
+}
+
+/// Puts the bytes of an output behind those in the buffer.
+pub fn put_output(into: &mut Buffer, output: &Output<'_>) -> Result<(), NoRoom>
+    requires { IsKnown output.now }
+    ensures items { IfOk result (λ _. into.new.items ≡ into.old.items ++ output_text output.now) }
+    ensures within { IfOk result (λ _. length into.old.items ≤ into.old.room → length into.new.items ≤ into.old.room) }
+    ensures full { IfErr result (λ _. into.old.room < length into.old.items + length (output_text output.now)) }
+    ensures room { into.new.room ≡ into.old.room }
+{
+    match output {
+        Output::Text(number) => put(into, text(*number)),
+        Output::Value(shown) => put_value(into, shown),
+        Output::Number(number) => put_number(into, *number),
+    }
+}
