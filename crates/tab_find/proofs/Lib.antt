@@ -1,0 +1,16 @@
+pub mod MachineLaws
+pub mod TakenLaws
+pub mod Ready
+pub mod Compare
+pub mod Look
+pub mod FindEnds
+pub mod FindLaws
+pub mod MomentEnds
+pub mod FreeEnds
+pub mod PutLaws
+pub mod Copy
+pub mod NewItem
+pub mod Replace
+pub mod DrawEnds
+pub mod ExpiryEnds
+pub mod EmitWords
