@@ -1,0 +1,94 @@
+-- What the one program of all commands does: it answers.
+use Rattle.std.proofs.Common.{ℕ, ◌+◌, ◌*◌, ◌^◌, ◌<◌, List, [], ◌∷◌, refl, ap, ◌∙◌, arith}
+use Rattle.mc_model.specs.declared.geometry.Geometry.{Geometry}
+use Rattle.mc_model.specs.Answer.{answer}
+use Rattle.mc_model.specs.Bucket.{Bucket, arrived}
+use Rattle.mc_model.specs.Call.{Call}
+use Rattle.mc_model.specs.Server.{IsValid, room_of}
+use Rattle.mc_render.specs.Rendering.{rendered}
+use Rattle.sei_stmt.specs.Machine.{Setting}
+use Rattle.sei_stmt.specs.declared.stmt.Stmt.TheVariants.{Render}
+use Rattle.sei_stmt.specs.Runs.{Given, RunState, start, parse}
+use Rattle.sei_stmt.specs.Given.{given_of}
+use Rattle.sei_stmt.specs.Passes.{IsPassOf}
+use Rattle.sei_stmt.specs.Programs.{Block, Seq, Ends}
+use Rattle.sei_stmt.specs.Touch.{anything}
+use Rattle.sei_stmt.proofs.FrameLaws.{seq, any_program}
+use Rattle.sei_stmt.proofs.ServeLaws.{Ended}
+use Rattle.tab_find.specs.Parts.{moment_program}
+use Rattle.tab_find.proofs.MomentEnds.{mover, Arrived, moment_stands}
+use Rattle.sei_hand.specs.Bounded.{IsBounded}
+use Rattle.sei_hand.specs.Commands.{dispatch, hands_program, hands_table}
+use Rattle.sei_hand.specs.Served.{Stands, Asks}
+use Rattle.sei_hand.specs.Spaces.{rooms_of, space_of}
+use Rattle.sei_hand.proofs.Shared.{CanAnswer, Answered, reply_at}
+use Rattle.sei_hand.proofs.BoundedLaws.{arrived_bounded, answer_bounded}
+use Rattle.sei_hand.proofs.FitLaws.{fit_is_answer}
+use Rattle.sei_hand.proofs.Dispatch.{dispatch_answers}
+
+module _ (g : Geometry) (valid : IsValid g) (setting : Setting) (pass : IsPassOf (hands_table g) (rendered (8 * g.value_words)) (space_of g) setting)
+    (input : List ℕ) (c : Call) (is_call : Asks g input c) (now : ℕ) (small : now < 2 ^ 64) (slot : List ℕ → ℕ → ℕ) where
+  abbrev given : Given
+  given = given_of setting (rooms_of g) input now slot
+
+  abbrev after : Bucket → Bucket
+  after b = (answer (room_of g) b now c).0
+
+  abbrev reply : Bucket → List ℕ
+  reply b = (answer (room_of g) b now c).1
+
+  can : (ws : List ℕ) (b : Bucket) → Stands g ws b → CanAnswer g given ws b c
+  can ws b h = record {
+    valid = valid;
+    stands = h.stands;
+    bounded = h.bounded;
+    asked = is_call.asked;
+    call = is_call.call;
+    fit = fit_is_answer g setting pass.slots_are pass.free_are;
+    out_room = omega arith;
+    log_room = omega arith;
+  }
+
+  -- all statements of the budget but ten
+  abbrev most : ℕ
+  most = 1990 + 400 * g.slots + 100 * g.value_words
+
+  rendered_ends : (b : Bucket) (t : RunState) → IsBounded b → Answered g (arrived now b) c most t → Ends given (Block (Render ∷ [])) t (Ended setting (λ ws. Stands g ws (after b)) (reply b))
+  unfolding answer
+  rendered_ends b t bounded a = (
+    a.stage,
+    reply_at g (arrived now b) c,
+    ap (λ f. f t.out) pass.rendered_are ∙ a.reply.is,
+    omega (arith, a.reply.short),
+    record {
+      stage = refl;
+      steps = omega (arith, a.steps, pass.budget_is);
+      held = record { stands = a.stands; bounded = answer_bounded (room_of g) b now c small is_call.asked.flags is_call.asked.exptime bounded };
+      reply_is = refl;
+    },
+  )
+
+  pub hands_ends : (words : List ℕ) (b : Bucket) → Stands g words b → Ends given (hands_program g) (start (λ r. 0) words) (Ended setting (λ ws. Stands g ws (after b)) (reply b))
+  hands_ends words b h =
+      let Q = Ended setting (λ ws. Stands g ws (after b)) (reply b) in
+      let s = parse (start (λ r. 0) words) in
+      let last = Block (Render ∷ []) in (
+        refl,
+        seq given mover moment_program (Seq (dispatch g) last) s (Arrived g now b 13 1) Q refl
+            (moment_stands g given s b 13 1 h.stands refl refl (omega arith) (omega arith) (omega arith))
+            (λ t f a.
+            let can' = can t.words (arrived now b) (record { stands = a.stands; bounded = arrived_bounded now b small h.bounded }) in
+            seq given anything (dispatch g) last t (Answered g (arrived now b) c most) Q (any_program (dispatch g))
+            (dispatch_answers g given t.words (arrived now b) c can' t most (record {
+              same = refl;
+              time = a.stage;
+              low = omega (arith, a.floor);
+              few = a.stores;
+              silent = f.emitted refl;
+              empty = f.out refl;
+              none = a.none;
+              moment = a.moment;
+              one = a.one;
+            }) (omega (arith, a.steps)) (omega (arith, pass.budget_is)))
+            (λ u fu d. rendered_ends b u h.bounded d)),
+      )

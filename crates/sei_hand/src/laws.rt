@@ -1,0 +1,52 @@
+//! Laws of the definitions, each the clause of a function that does nothing.
+
+ghost use Rattle.std.specs.Prelude.{◌≡◌, ℕ, ◌≤◌, ◌*◌, List, length, Some, None};
+ghost use Rattle.mc_model.specs.declared.geometry.Geometry.{Geometry};
+ghost use Rattle.mc_model.specs.Call.{Placed};
+ghost use Rattle.mc_model.specs.Packed.{AreBytes};
+ghost use Rattle.mc_model.specs.Server.{IsValid, room_of};
+ghost use Rattle.mc_text.specs.declared.limits.Limits.{Limits};
+ghost use Rattle.mc_text.specs.Meaning.{Meaning};
+ghost use Rattle.mc_text.specs.Spells.{Spells};
+ghost use Rattle.sei_stmt.specs.Handling.{Parsed, parsed_words};
+ghost use Rattle.sei_hand.specs.InputWords.{input_words, input_room};
+ghost use Rattle.sei_hand.specs.Requests.{limits_of, request_of, call_in, call_or_blank, parsed_of, parsed_call};
+ghost use Rattle.mc_model.specs.Answer.{answer};
+ghost use Rattle.mc_render.specs.Rendering.{rendered};
+ghost use Rattle.sei_stmt.specs.Sound.{IsSound};
+ghost use Rattle.sei_hand.specs.Commands.{hands_table};
+ghost use Rattle.sei_hand.specs.Spaces.{space_of};
+ghost use Rattle.sei_hand.specs.Served.{Stands};
+ghost use Rattle.sei_hand.specs.ReadCall.{IsReadCall, HasBytes, ComesFrom};
+
+/// The request of an input is the one that it spells.
+pub fn requests_are_spelled()
+    ensures found { (l : Limits) (bytes : List ℕ) (m : Meaning) → request_of l bytes ≡ Some m → Spells l bytes m }
+    ensures exact { (l : Limits) (bytes : List ℕ) (m : Meaning) → Spells l bytes m → request_of l bytes ≡ Some m }
+    ensures none { (l : Limits) (bytes : List ℕ) → ((m : Meaning) → Spells l bytes m → ⊥) → request_of l bytes ≡ None }
+{}
+
+/// What a pass is given belongs to a call that was read.
+pub fn calls_are_read()
+    ensures call { (g : Geometry) (bytes : List ℕ) (nth : ℕ) (p : Placed) →
+        IsValid g → call_in (limits_of g) bytes nth ≡ Some p → IsReadCall g p }
+    ensures bytes { (g : Geometry) (bytes : List ℕ) (nth : ℕ) (p : Placed) →
+        AreBytes bytes → call_in (limits_of g) bytes nth ≡ Some p → HasBytes p }
+    ensures parsed { (g : Geometry) (bytes : List ℕ) (nth : ℕ) (p : Placed) →
+        call_in (limits_of g) bytes nth ≡ Some p → parsed_call g bytes nth ≡ Some (parsed_of g p) }
+    ensures from { (g : Geometry) (bytes : List ℕ) (nth : ℕ) (x : Parsed) →
+        IsValid g → parsed_call g bytes nth ≡ Some x → ComesFrom g bytes nth x }
+    ensures room { (g : Geometry) (bytes : List ℕ) (nth : ℕ) →
+        IsValid g → length (parsed_words (parsed_call g bytes nth)) ≤ input_room g }
+    ensures words { (g : Geometry) (p : Placed) → IsReadCall g p → length (input_words g p.call) ≡ input_room g }
+{}
+
+/// The hands of each valid geometry are sound: from words that stand for a bucket, each honest run of
+/// their table, in the first pass and in the second, halts within its budget and its rooms, and leaves
+/// words that stand for the bucket that the answer leaves, with its reply. Words change in rising order
+/// of their addresses.
+pub fn hands_are_sound()
+    ensures { (g : Geometry) → IsValid g →
+        IsSound (hands_table g) (parsed_call g) (rendered (8 * g.value_words)) (space_of g) (Stands g)
+        (λ input nth b now. answer (room_of g) b now (call_or_blank (call_in (limits_of g) input nth))) }
+{}

@@ -1,0 +1,16 @@
+//! The service as a handler: the requests of memcached are read into the input words of a pass, and
+//! output words are made into replies.
+#![tactic(auto)]
+
+mod commands;
+mod fill;
+mod getting;
+mod hands;
+mod laws;
+mod setting;
+mod table;
+#[cfg(test)]
+mod tests;
+
+pub use hands::{Hands, HandsError};
+pub use laws::{calls_are_read, hands_are_sound, requests_are_spelled};
