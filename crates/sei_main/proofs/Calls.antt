@@ -1,4 +1,4 @@
--- The calls of a request that waits: each stands at its own bucket, and there are no more than bytes.
+-- The calls of a request that waits: each is fit and stands at its own bucket, and there are no more than bytes.
 use Rattle.std.proofs.Common.{◌≡◌, ℕ, suc, ◌<◌, ◌≤◌, Bool, true, false, List, [], ◌∷◌, length, take, drop, refl, ap, arith, Some, None}
 use Rattle.std.specs.Prelude.{if◌then◌else◌, All}
 use Rattle.std.proofs.lemmas.List.{length-take, length-drop}
@@ -10,6 +10,7 @@ use Rattle.mc_text.specs.declared.request.Request.{Request}
 use Rattle.mc_text.specs.Words.{words}
 use Rattle.mc_text.specs.Lines.{some_words}
 use Rattle.mc_text.specs.Meaning.{Meaning, One, Each, key_calls, calls_of}
+use Rattle.mc_text.specs.Fits.{IsFit}
 use Rattle.mc_text.specs.Parsed.{by_kind}
 use Rattle.mc_text.specs.Reading.{buckets_of, calls_at}
 use Rattle.mc_text.specs.Front.{front}
@@ -20,14 +21,17 @@ use Rattle.sei_main.specs.Seats.{Seat, waiting}
 use Rattle.sei_main.specs.State.{next_request}
 use Rattle.sei_main.proofs.KeptServer.{StandsAt}
 
-pub calls_stand : (l : Limits) (seat : Seat) (size : ℕ) (m : Meaning) → next_request l seat ≡ Some (size, m) → 0 < l.buckets → All (StandsAt l.buckets) (calls_of l.buckets m)
-calls_stand l seat size m e some = by seat.closed e
+pub next_fits : (l : Limits) (seat : Seat) (size : ℕ) (m : Meaning) → next_request l seat ≡ Some (size, m) → 0 < l.buckets → All (IsFit l) (calls_of l.buckets m)
+next_fits l seat size m e some = by seat.closed e
   where
-    by : (closed : Bool) → (if closed then None else front l (waiting seat)) ≡ Some (size, m) → All (StandsAt l.buckets) (calls_of l.buckets m)
+    by : (closed : Bool) → (if closed then None else front l (waiting seat)) ≡ Some (size, m) → All (IsFit l) (calls_of l.buckets m)
     by true q = cc
-    by false q =
-        let fit = calls_fit l (take size (waiting seat)) m some (front_reads l (waiting seat) size m q).spelled in
-        λ k d h. let f = fit k d h in record { placed = f.placed; bucket = f.bucket }
+    by false q = calls_fit l (take size (waiting seat)) m some (front_reads l (waiting seat) size m q).spelled
+
+pub calls_stand : (l : Limits) (seat : Seat) (size : ℕ) (m : Meaning) → next_request l seat ≡ Some (size, m) → 0 < l.buckets → All (StandsAt l.buckets) (calls_of l.buckets m)
+calls_stand l seat size m e some =
+    let fit = next_fits l seat size m e some in
+    λ k d h. let f = fit k d h in record { placed = f.placed; bucket = f.bucket }
 
 length-key_calls : (buckets : ℕ) (c : Call) (keys : List (List ℕ)) → length (key_calls buckets c keys) ≡ length keys
 length-key_calls buckets c [] = refl

@@ -3,56 +3,21 @@ use Rattle.std.proofs.Common.{◌≡◌, ℕ, zero, suc, ◌+◌, ◌≤◌, ◌
 use Rattle.std.specs.Prelude.{if◌then◌else◌, slice_get}
 use Rattle.std.specs.Io.KnownBytes.{append_known}
 use mir.Val.{bool_byte}
-use Rattle.std.proofs.lemmas.List.{drop_all, length-append, length-set}
+use Rattle.std.proofs.lemmas.List.{length-append}
 use Rattle.sei_outside.specs.Bytes.{WrotePart}
 use Rattle.mc_model.specs.Call.{Placed}
-use Rattle.mc_model.specs.Server.{Server, server_answer}
 use Rattle.sei_main.specs.History.{Entry}
 use Rattle.sei_main.specs.Own.{is_message, message_of, messages_of}
 use Rattle.sei_main.specs.Events.{Event, entries_of}
-use Rattle.sei_main.specs.State.{clock_answer, entry_for, entry_events, answers}
+use Rattle.sei_main.specs.State.{Answering, clock_answer, entry_for, entry_events, answers_by}
 use Rattle.sei_main.specs.Report.{events_text}
-use Rattle.sei_main.proofs.Written.{Written, written_start, written_more, written_part, written_all, written_same}
+use Rattle.sei_main.proofs.Written.{Written, written_more, written_part, written_same}
 use Rattle.sei_main.proofs.Answering.{entries_answered}
-
--- the answers from the nth call on
-abbrev pub later : ℕ → ℕ → ℕ → Server → List Placed → Server × List Event
-later c first nth server calls = answers c (first + nth) server (drop nth calls)
-
-pub record CallsSoFar (h : Bool) (old now : Option (List ℕ)) (c first nth messages : ℕ) (start server : Server) (calls : List Placed) : Type 0 where
-  pub written : Written h old now (later c first nth server calls).1 (answers c first start calls).1
-  pub server_is : (later c first nth server calls).0 ≡ (answers c first start calls).0
-  pub count : messages + length (messages_of (entries_of (later c first nth server calls).1)) ≡ length (messages_of (entries_of (answers c first start calls).1))
-  pub few : messages ≤ nth
-  pub size : length server.buckets ≡ length start.buckets
-
-pub no_calls_yet : (h : Bool) (old : Option (List ℕ)) (c first : ℕ) (start : Server) (calls : List Placed) → CallsSoFar h old old c first 0 0 start start calls
-no_calls_yet h old c first start calls =
-    let e : answers c first start calls ≡ later c first 0 start calls = let k : first ≡ first + 0 = omega arith in ap (λ (n : ℕ). answers c n start calls) k in
-    record {
-      written = written_same h old old _ _ _ (ap (λ (p : Server × List Event). p.1) e) (written_start h old _);
-      server_is = sym (ap (λ (p : Server × List Event). p.0) e);
-      count = omega (arith, ap (λ (p : Server × List Event). length (messages_of (entries_of p.1))) e);
-      few = omega arith;
-      size = refl;
-    }
 
 call_there : (calls : List Placed) (nth : ℕ) (p : Placed) → Some p ≡ slice_get calls nth → drop nth calls ≡ p ∷ drop (nth + 1) calls
 call_there [] nth p e = cc
 call_there (x ∷ calls) zero p e = let s : p ≡ x = cc in ap (λ (y : Placed). y ∷ calls) (sym s)
 call_there (x ∷ calls) (suc nth) p e = let k : suc (nth + 1) ≡ suc nth + 1 = omega arith in call_there calls nth p e ∙ ap (λ (n : ℕ). p ∷ drop n (x ∷ calls)) k
-
--- the answers from here on are one answer, and then the later ones
-later_front : (c first nth : ℕ) (server new : Server) (calls : List Placed) (p : Placed) → Some p ≡ slice_get calls nth → new ≡ (server_answer server clock_answer p).0
-    → later c first nth server calls
-    ≡ ((later c first (nth + 1) new calls).0, entry_events (entry_for c (first + nth) p (server_answer server clock_answer p).1) ++ (later c first (nth + 1) new calls).1)
-later_front c first nth server new calls p e n =
-    let a = server_answer server clock_answer p in
-    let k : first + nth + 1 ≡ first + (nth + 1) = omega arith in
-    let entry : Entry = entry_for c (first + nth) p a.1 in
-    ap (λ (ps : List Placed). answers c (first + nth) server ps) (call_there calls nth p e)
-    ∙ ap (λ (m : ℕ). ((answers c m a.0 (drop (nth + 1) calls)).0, entry_events entry ++ (answers c m a.0 (drop (nth + 1) calls)).1)) k
-    ∙ ap (λ (s : Server). ((answers c (first + (nth + 1)) s (drop (nth + 1) calls)).0, entry_events entry ++ (answers c (first + (nth + 1)) s (drop (nth + 1) calls)).1)) (sym n)
 
 one_message : (reply : List ℕ) (sent : Bool) → sent ≡ is_message reply → length (message_of reply) ≡ (if sent then 1 else 0)
 one_message [] sent e = ap (λ (b : Bool). if b then 1 else 0) (sym e)
@@ -66,52 +31,6 @@ at_most_one : (sent : Bool) → (if sent then 1 else 0) ≤ 1
 at_most_one true = omega arith
 at_most_one false = omega arith
 
--- a call more
-pub call_more : (h : Bool) (old now new : Option (List ℕ)) (c first nth messages : ℕ) (start server next : Server) (calls : List Placed) (p : Placed) (sent : Bool)
-    → CallsSoFar h old now c first nth messages start server calls → Some p ≡ slice_get calls nth → next ≡ (server_answer server clock_answer p).0 → sent ≡ is_message (server_answer server clock_answer p).1
-    → new ≡ append_known now (events_text h (entry_events (entry_for c (first + nth) p (server_answer server clock_answer p).1)))
-    → CallsSoFar h old new c first (nth + 1) (messages + (if sent then 1 else 0)) start next calls
-call_more h old now new c first nth messages start server next calls p sent s e n m w =
-    let a = server_answer server clock_answer p in
-    let entry : Entry = entry_for c (first + nth) p a.1 in
-    let front = later_front c first nth server next calls p e n in
-    let rest = later c first (nth + 1) next calls in
-    let entries : entries_of (later c first nth server calls).1 ≡ entry ∷ entries_of rest.1 = ap (λ (q : Server × List Event). entries_of q.1) front ∙ entries_answered entry rest.1 in
-    let many : length (messages_of (entries_of (later c first nth server calls).1)) ≡ (if sent then 1 else 0) + length (messages_of (entries_of rest.1)) =
-    ap (λ (es : List Entry). length (messages_of es)) entries ∙ length-append (message_of a.1) (messages_of (entries_of rest.1)) ∙ ap (λ (x : ℕ). x + length (messages_of (entries_of rest.1))) (one_message a.1 sent m) in
-    record {
-      written = written_more h old now new (entry_events entry) rest.1 _ (written_same h old now _ _ _ (ap (λ (q : Server × List Event). q.1) front) s.written) w;
-      server_is = sym (ap (λ (q : Server × List Event). q.0) front) ∙ s.server_is;
-      count = omega (arith, many, s.count);
-      few = omega (arith, s.few, at_most_one sent);
-      size = ap (λ (x : Server). length x.buckets) n ∙ length-set server.buckets p.bucket _ ∙ s.size;
-    }
-
--- a part of a call more
-pub call_part : (h : Bool) (old now new : Option (List ℕ)) (c first nth messages : ℕ) (start server : Server) (calls : List Placed) (p : Placed)
-    → CallsSoFar h old now c first nth messages start server calls → Some p ≡ slice_get calls nth
-    → WrotePart now new (events_text h (entry_events (entry_for c (first + nth) p (server_answer server clock_answer p).1))) → WrotePart old new (events_text h (answers c first start calls).1)
-call_part h old now new c first nth messages start server calls p s e w =
-    let a = server_answer server clock_answer p in
-    let front = later_front c first nth server a.0 calls p e refl in
-    written_part h old now new (entry_events (entry_for c (first + nth) p a.1)) (later c first (nth + 1) a.0 calls).1 _ (written_same h old now _ _ _ (ap (λ (q : Server × List Event). q.1) front) s.written) w
-
--- all calls
-pub record CallsDone (h : Bool) (old now : Option (List ℕ)) (c first messages : ℕ) (start server : Server) (calls : List Placed) : Type 0 where
-  pub server_is : server ≡ (answers c first start calls).0
-  pub count : messages ≡ length (messages_of (entries_of (answers c first start calls).1))
-  pub wrote : now ≡ append_known old (events_text h (answers c first start calls).1)
-
-pub calls_done : (h : Bool) (old now : Option (List ℕ)) (c first nth messages : ℕ) (start server : Server) (calls : List Placed) → length calls ≤ nth
-    → CallsSoFar h old now c first nth messages start server calls → CallsDone h old now c first messages start server calls
-calls_done h old now c first nth messages start server calls l s =
-    let end : later c first nth server calls ≡ (server, []) = ap (λ (ps : List Placed). answers c (first + nth) server ps) (drop_all nth calls l) in
-    record {
-      server_is = sym (ap (λ (q : Server × List Event). q.0) end) ∙ s.server_is;
-      count = omega (arith, s.count, ap (λ (q : Server × List Event). length (messages_of (entries_of q.1))) end);
-      wrote = written_all h old now _ (written_same h old now _ _ _ (ap (λ (q : Server × List Event). q.1) end) s.written);
-    }
-
 -- there is no call too few
 pub call_is_there : (calls : List Placed) (nth : ℕ) → nth < length calls → None ≡ slice_get calls nth → ⊥
 call_is_there [] nth l e = absurd (omega (arith, l))
@@ -121,3 +40,55 @@ call_is_there (x ∷ calls) (suc nth) l e = call_is_there calls nth (omega (arit
 pub none_of : {A : Type 0} (o : Option A) → ((x : A) → o ≡ Some x → ⊥) → o ≡ None
 none_of None h = refl
 none_of (Some x) h = absurd (h x refl)
+
+module _ {S : Type 0} (answering : Answering S) where
+  -- the answers from the nth call on
+  abbrev pub later : ℕ → ℕ → ℕ → S → List Placed → S × List Event
+  later c first nth server calls = answers_by answering c (first + nth) server (drop nth calls)
+
+  pub record CallsSoFar (h : Bool) (old now : Option (List ℕ)) (c first nth messages : ℕ) (start server : S) (calls : List Placed) : Type 0 where
+    pub written : Written h old now (later c first nth server calls).1 (answers_by answering c first start calls).1
+    pub server_is : (later c first nth server calls).0 ≡ (answers_by answering c first start calls).0
+    pub count : messages + length (messages_of (entries_of (later c first nth server calls).1)) ≡ length (messages_of (entries_of (answers_by answering c first start calls).1))
+    pub few : messages ≤ nth
+
+  -- the answers from here on are one answer, and then the later ones
+  later_front : (c first nth : ℕ) (server new : S) (calls : List Placed) (p : Placed) → Some p ≡ slice_get calls nth → new ≡ (answering server clock_answer p).0
+      → later c first nth server calls
+      ≡ ((later c first (nth + 1) new calls).0, entry_events (entry_for c (first + nth) p (answering server clock_answer p).1) ++ (later c first (nth + 1) new calls).1)
+  later_front c first nth server new calls p e n =
+      let a = answering server clock_answer p in
+      let k : first + nth + 1 ≡ first + (nth + 1) = omega arith in
+      let entry : Entry = entry_for c (first + nth) p a.1 in
+      ap (λ (ps : List Placed). answers_by answering c (first + nth) server ps) (call_there calls nth p e)
+      ∙ ap (λ (m : ℕ). ((answers_by answering c m a.0 (drop (nth + 1) calls)).0, entry_events entry ++ (answers_by answering c m a.0 (drop (nth + 1) calls)).1)) k
+      ∙ ap (λ (s : S). ((answers_by answering c (first + (nth + 1)) s (drop (nth + 1) calls)).0, entry_events entry ++ (answers_by answering c (first + (nth + 1)) s (drop (nth + 1) calls)).1)) (sym n)
+
+  -- a call more
+  pub call_more : (h : Bool) (old now new : Option (List ℕ)) (c first nth messages : ℕ) (start server next : S) (calls : List Placed) (p : Placed) (sent : Bool)
+      → CallsSoFar h old now c first nth messages start server calls → Some p ≡ slice_get calls nth → next ≡ (answering server clock_answer p).0 → sent ≡ is_message (answering server clock_answer p).1
+      → new ≡ append_known now (events_text h (entry_events (entry_for c (first + nth) p (answering server clock_answer p).1)))
+      → CallsSoFar h old new c first (nth + 1) (messages + (if sent then 1 else 0)) start next calls
+  call_more h old now new c first nth messages start server next calls p sent s e n m w =
+      let a = answering server clock_answer p in
+      let entry : Entry = entry_for c (first + nth) p a.1 in
+      let front = later_front c first nth server next calls p e n in
+      let rest = later c first (nth + 1) next calls in
+      let entries : entries_of (later c first nth server calls).1 ≡ entry ∷ entries_of rest.1 = ap (λ (q : S × List Event). entries_of q.1) front ∙ entries_answered entry rest.1 in
+      let many : length (messages_of (entries_of (later c first nth server calls).1)) ≡ (if sent then 1 else 0) + length (messages_of (entries_of rest.1)) =
+      ap (λ (es : List Entry). length (messages_of es)) entries ∙ length-append (message_of a.1) (messages_of (entries_of rest.1)) ∙ ap (λ (x : ℕ). x + length (messages_of (entries_of rest.1))) (one_message a.1 sent m) in
+      record {
+        written = written_more h old now new (entry_events entry) rest.1 _ (written_same h old now _ _ _ (ap (λ (q : S × List Event). q.1) front) s.written) w;
+        server_is = sym (ap (λ (q : S × List Event). q.0) front) ∙ s.server_is;
+        count = omega (arith, many, s.count);
+        few = omega (arith, s.few, at_most_one sent);
+      }
+
+  -- a part of a call more
+  pub call_part : (h : Bool) (old now new : Option (List ℕ)) (c first nth messages : ℕ) (start server : S) (calls : List Placed) (p : Placed)
+      → CallsSoFar h old now c first nth messages start server calls → Some p ≡ slice_get calls nth
+      → WrotePart now new (events_text h (entry_events (entry_for c (first + nth) p (answering server clock_answer p).1))) → WrotePart old new (events_text h (answers_by answering c first start calls).1)
+  call_part h old now new c first nth messages start server calls p s e w =
+      let a = answering server clock_answer p in
+      let front = later_front c first nth server a.0 calls p e refl in
+      written_part h old now new (entry_events (entry_for c (first + nth) p a.1)) (later c first (nth + 1) a.0 calls).1 _ (written_same h old now _ _ _ (ap (λ (q : S × List Event). q.1) front) s.written) w

@@ -6,7 +6,7 @@ use Rattle.sei_main.specs.declared.script.line.Context.{Context}
 use Rattle.sei_main.specs.Limits.{most_connections}
 use Rattle.sei_main.specs.Context.{empty_context, context_after}
 use Rattle.sei_main.specs.Fit.{IsFit, AreFit}
-use Rattle.sei_main.specs.State.{State, led}
+use Rattle.sei_main.specs.State.{Answering, StateOf, led_by}
 use Rattle.sei_main.specs.Becomes.{IsKnown}
 use Rattle.sei_main.proofs.Rounds.{led_length}
 
@@ -36,13 +36,14 @@ few_by opens x (lines.Open c) e h f = omega (arith, f.1, f.2)
 few_by opens x (lines.Say c bytes) e h f = omega (arith, e, h)
 few_by opens x lines.Drain e h f = omega (arith, e, h)
 
--- and the lines behind it may be run then
-pub fit_next : (s new : State) (line : ScriptLine) (script : List ScriptLine) → new ≡ (led s line).state → FitBehind (length s.seats) (line ∷ script) → FitBehind (length new.seats) script
-fit_next s new line script e f =
-    let size : length new.seats ≡ (context_after f.context line).opens = ap (λ (x : State). length x.seats) e ∙ led_length s f.context line f.opens_is in
-    record {
-      context = context_after f.context line;
-      opens_is = size;
-      few = omega (arith, size, few_by (length s.seats) f.context line f.opens_is f.few f.fit.0);
-      fit = f.fit.1;
-    }
+module _ {S : Type 0} (answering : Answering S) where
+  -- and the lines behind it may be run then
+  pub fit_next : (s new : StateOf S) (line : ScriptLine) (script : List ScriptLine) → new ≡ (led_by answering s line).state → FitBehind (length s.seats) (line ∷ script) → FitBehind (length new.seats) script
+  fit_next s new line script e f =
+      let size : length new.seats ≡ (context_after f.context line).opens = ap (λ (x : StateOf S). length x.seats) e ∙ led_length answering s f.context line f.opens_is in
+      record {
+        context = context_after f.context line;
+        opens_is = size;
+        few = omega (arith, size, few_by (length s.seats) f.context line f.opens_is f.few f.fit.0);
+        fit = f.fit.1;
+      }

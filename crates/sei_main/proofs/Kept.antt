@@ -117,12 +117,12 @@ round_from_keeps g fed zero c t some k = subst (Kept g fed) (sym (told_idle t)) 
 round_from_keeps g fed (suc count) c t some k =
     subst (Kept g fed) (told_behind t (step t.state c) (round_from count (c + 1))) (round_from_keeps g fed count (c + 1) (told t (step t.state c)) some (step_keeps g fed t c some k))
 
-rounds_by : (g : Geometry) (fed : ℕ → List ℕ) (m : ℕ) (t : Told) (test : Bool) → 0 < g.buckets → ((u : Told) → Kept g fed u → Kept g fed (told u (rounds m u.state))) → Kept g fed t
+rounds_kept_if : (g : Geometry) (fed : ℕ → List ℕ) (m : ℕ) (t : Told) (test : Bool) → 0 < g.buckets → ((u : Told) → Kept g fed u → Kept g fed (told u (rounds m u.state))) → Kept g fed t
     → Kept g fed (told t (if test then behind (round t.state) (rounds m) else round t.state))
-rounds_by g fed m t true some step k =
+rounds_kept_if g fed m t true some step k =
     subst (Kept g fed) (told_behind t (round t.state) (rounds m)) (step (told t (round t.state)) (round_from_keeps g fed (length t.state.seats) 0 t some k))
-rounds_by g fed m t false some step k = round_from_keeps g fed (length t.state.seats) 0 t some k
+rounds_kept_if g fed m t false some step k = round_from_keeps g fed (length t.state.seats) 0 t some k
 
 pub rounds_keep : (g : Geometry) (fed : ℕ → List ℕ) (m : ℕ) (t : Told) → 0 < g.buckets → Kept g fed t → Kept g fed (told t (rounds m t.state))
 rounds_keep g fed zero t some k = subst (Kept g fed) (sym (told_idle t)) k
-rounds_keep g fed (suc m) t some k = rounds_by g fed m t (round t.state).went some (λ u. rounds_keep g fed m u some) k
+rounds_keep g fed (suc m) t some k = rounds_kept_if g fed m t (round t.state).went some (λ u. rounds_keep g fed m u some) k

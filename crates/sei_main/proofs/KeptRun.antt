@@ -5,6 +5,7 @@ use Rattle.std.proofs.lemmas.Bool.Decides.{nat_tests}
 use Rattle.std.proofs.lemmas.List.{append_assoc, append-nil, get_or-set_same, get_or-set_other}
 use Rattle.std.proofs.lemmas.List.Concat.{flat_map-append}
 use Rattle.mc_model.specs.declared.geometry.Geometry.{Geometry}
+use Rattle.mc_model.specs.Server.{server_answer}
 use Rattle.mc_text.specs.declared.limits.Limits.{Limits}
 use Rattle.sei_main.specs.declared.script.line.ScriptLine.{ScriptLine}
 use Rattle.sei_main.specs.declared.script.line.ScriptLine.TheVariants as lines
@@ -15,7 +16,7 @@ use Rattle.sei_main.specs.History.{Entry}
 use Rattle.sei_main.specs.Own.{own_entries}
 use Rattle.sei_main.specs.Events.{Event, entries_of, sent_to}
 use Rattle.sei_main.specs.Seats.{Seat, empty_seat, fed_more}
-use Rattle.sei_main.specs.State.{Told, told, idle, seat_at, led, limits_of, bytes_waiting}
+use Rattle.sei_main.specs.State.{Told, told, idle, seat_at, led_by, limits_of, bytes_waiting}
 use Rattle.sei_main.specs.Run.{start, after, run_from}
 use Rattle.sei_main.specs.Headline.{fed_to, fed_by}
 use Rattle.sei_main.proofs.Rounds.{led_length}
@@ -71,7 +72,7 @@ said_at g p t c d bytes false q inside k =
 
 led_keeps : (g : Geometry) (p : List ScriptLine) (t : Told) (x : Context) (line : ScriptLine) → 0 < g.buckets → length t.state.seats ≡ x.opens → IsFit x line → Kept g (λ c. fed_to c p) t
     → Kept g (λ c. fed_to c (p ++ line ∷ [])) (after t line)
-unfolding led
+unfolding led_by
 led_keeps g p t x (lines.Geometry n) some e f k =
     refed g (λ c. fed_to c p) (λ c. fed_to c (p ++ lines.Geometry n ∷ [])) (after t (lines.Geometry n)) (λ c. fed_none c p (lines.Geometry n) refl)
     (quiet g (λ c. fed_to c p) (λ c. fed_to c p) t t.state.seats k k.seats)
@@ -91,7 +92,7 @@ pub run_keeps : (g : Geometry) (p : List ScriptLine) (t : Told) (x : Context) (s
 run_keeps g p t x [] some e f k = refed g (λ c. fed_to c p) (λ c. fed_to c (p ++ [])) t (λ c. ap (fed_to c) (append-nil p)) k
 run_keeps g p t x (line ∷ script) some e f k =
     refed g (λ c. fed_to c ((p ++ line ∷ []) ++ script)) (λ c. fed_to c (p ++ line ∷ script)) (run_from (after t line) script) (λ c. ap (fed_to c) (sym (append_assoc p (line ∷ []) script)))
-    (run_keeps g (p ++ line ∷ []) (after t line) (context_after x line) script some (led_length t.state x line e) f.1 (led_keeps g p t x line some e f.0 k))
+    (run_keeps g (p ++ line ∷ []) (after t line) (context_after x line) script some (led_length server_answer t.state x line e) f.1 (led_keeps g p t x line some e f.0 k))
 
 empty_at : (c : ℕ) → slice_index_or [] c empty_seat ≡ empty_seat
 empty_at zero = refl

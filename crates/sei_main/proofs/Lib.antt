@@ -3,6 +3,7 @@ pub mod Cuts
 pub mod EscapeLaws
 pub mod UnescapeLaws
 pub mod Fit
+pub mod SaysLaws
 pub mod Limits
 pub mod Written
 pub mod Steps
@@ -11,6 +12,7 @@ pub mod Runs
 pub mod Answering
 pub mod KeptServer
 pub mod Calls
+pub mod Asked
 pub mod KeptSeat
 pub mod Kept
 pub mod KeptRun
@@ -21,9 +23,14 @@ pub mod Headline
 pub mod SeatTexts
 pub mod Nexts
 pub mod CallTexts
-pub mod Stepping
 pub mod Looping
 pub mod Fitting
 pub mod Running
 pub mod CallsSoFar
 pub mod Taking
+pub mod SeatBytes
+pub mod Simulated
+pub mod TableLaws
+pub mod PassLoop
+pub mod TableCalls
+pub mod TableRuns

@@ -4,7 +4,6 @@ use Rattle.std.specs.Prelude.{slice_index_or, slice_set, if◌then◌else◌, �
 use Rattle.std.proofs.lemmas.List.{length-drop, length-set, length_push}
 use Rattle.mc_text.specs.declared.limits.Limits.{Limits}
 use Rattle.mc_model.specs.Call.{Placed}
-use Rattle.mc_model.specs.Server.{Server}
 use Rattle.mc_text.specs.Meaning.{Meaning, calls_of, ends_connection}
 use Rattle.sei_main.specs.Own.{messages_of}
 use Rattle.sei_main.specs.Events.{Event, entries_of}
@@ -15,7 +14,7 @@ use Rattle.sei_main.specs.declared.script.line.ScriptLine.TheVariants as lines
 use Rattle.sei_main.specs.declared.script.line.Context.{Context}
 use Rattle.sei_main.specs.Context.{context_after}
 use Rattle.sei_main.specs.Seats.{Seat, empty_seat, waiting, taken_more}
-use Rattle.sei_main.specs.State.{State, Went, answers, behind, idle, led, step, step_front, next_request, limits_of, seat_at, round_from, round, rounds, drained, bytes_waiting}
+use Rattle.sei_main.specs.State.{Answering, StateOf, WentOf, answers_by, behind, idle, led_by, step_by, step_front_by, next_request, limits_of, seat_at, round_from_by, round_by, rounds_by, drained_by, bytes_waiting}
 use Rattle.sei_main.specs.Becomes.{Becomes}
 use Rattle.sei_main.proofs.Steps.{round_from_length, behind_idle}
 
@@ -51,106 +50,108 @@ next_within l seat size m e = by seat.closed refl e
     by true q e = cc
     by false q e = let f = front_length l (waiting seat) size m e in record { opened = q; some = f.0; within = f.1 }
 
--- a step went and took bytes, or nothing happened
-abbrev pub Goes : State → Went → Type 0
-Goes s w = ((w.went ≡ true) × (bytes_waiting w.state.seats < bytes_waiting s.seats)) ⊎ (w ≡ idle s)
-
-step_front_goes : (s : State) (c : ℕ) (o : Option (ℕ × Meaning)) → next_request (limits_of s.geometry) (seat_at s c) ≡ o → Goes s (step_front s c (seat_at s c) o)
-step_front_goes s c None e = inr refl
-step_front_goes s c (Some request) e =
-    let w : IsWithin (seat_at s c) request.0 = next_within (limits_of s.geometry) (seat_at s c) request.0 request.1 e in
-    let calls : List Placed = calls_of s.geometry.buckets request.1 in
-    let a : Server × List Event = answers c (seat_at s c).entered s.server calls in
-    inl (
-      refl,
-      fewer_wait s.seats c (taken_more (seat_at s c) request.0 (length calls) (length (messages_of (entries_of a.1))) (ends_connection request.1))
-          (shorter (seat_at s c) request.0 (length calls) (length (messages_of (entries_of a.1))) (ends_connection request.1) w.opened w.some w.within),
-    )
-
-pub step_goes : (s : State) (c : ℕ) → Goes s (step s c)
-step_goes s c = step_front_goes s c (next_request (limits_of s.geometry) (seat_at s c)) refl
-
 or_true : (a b : Bool) → a ≡ true → (a || b) ≡ true
 or_true true b e = refl
 or_true false b e = cc
 
-goes_behind : (s : State) (w : Went) (f : State → Went) → Goes s w → ((t : State) → Goes t (f t)) → Goes s (behind w f)
-goes_behind s w f (inl h) g = inl (or_true w.went (f w.state).went h.0, further (g w.state))
-  where
-    further : Goes w.state (f w.state) → bytes_waiting (f w.state).state.seats < bytes_waiting s.seats
-    further (inl k) = omega (arith, h.1, k.1)
-    further (inr k) = subst (λ (x : Went). bytes_waiting x.state.seats < bytes_waiting s.seats) (sym k) h.1
-goes_behind s w f (inr e) g = subst (λ (x : Went). Goes s (behind x f)) (sym e) (g s)
+module _ {S : Type 0} where
+  -- a step went and took bytes, or nothing happened
+  abbrev pub Goes : StateOf S → WentOf S → Type 0
+  Goes s w = ((w.went ≡ true) × (bytes_waiting w.state.seats < bytes_waiting s.seats)) ⊎ (w ≡ idle s)
 
-pub round_from_goes : (count c : ℕ) (s : State) → Goes s (round_from count c s)
-round_from_goes zero c s = inr refl
-round_from_goes (suc count) c s = goes_behind s (step s c) (round_from count (c + 1)) (step_goes s c) (round_from_goes count (c + 1))
+  goes_behind : (s : StateOf S) (w : WentOf S) (f : StateOf S → WentOf S) → Goes s w → ((t : StateOf S) → Goes t (f t)) → Goes s (behind w f)
+  goes_behind s w f (inl h) g = inl (or_true w.went (f w.state).went h.0, further (g w.state))
+    where
+      further : Goes w.state (f w.state) → bytes_waiting (f w.state).state.seats < bytes_waiting s.seats
+      further (inl k) = omega (arith, h.1, k.1)
+      further (inr k) = subst (λ (x : WentOf S). bytes_waiting x.state.seats < bytes_waiting s.seats) (sym k) h.1
+  goes_behind s w f (inr e) g = subst (λ (x : WentOf S). Goes s (behind x f)) (sym e) (g s)
 
-pub round_goes : (s : State) → Goes s (round s)
-round_goes s = round_from_goes (length s.seats) 0 s
+module _ {S : Type 0} (answering : Answering S) where
+  step_front_goes : (s : StateOf S) (c : ℕ) (o : Option (ℕ × Meaning)) → next_request (limits_of s.geometry) (seat_at s c) ≡ o → Goes s (step_front_by answering s c (seat_at s c) o)
+  step_front_goes s c None e = inr refl
+  step_front_goes s c (Some request) e =
+      let w : IsWithin (seat_at s c) request.0 = next_within (limits_of s.geometry) (seat_at s c) request.0 request.1 e in
+      let calls : List Placed = calls_of s.geometry.buckets request.1 in
+      let a : S × List Event = answers_by answering c (seat_at s c).entered s.server calls in
+      inl (
+        refl,
+        fewer_wait s.seats c (taken_more (seat_at s c) request.0 (length calls) (length (messages_of (entries_of a.1))) (ends_connection request.1))
+            (shorter (seat_at s c) request.0 (length calls) (length (messages_of (entries_of a.1))) (ends_connection request.1) w.opened w.some w.within),
+      )
 
-pub round_took : (s : State) → (round s).went ≡ true → bytes_waiting (round s).state.seats < bytes_waiting s.seats
-round_took s e = by (round_goes s)
-  where
-    by : Goes s (round s) → bytes_waiting (round s).state.seats < bytes_waiting s.seats
-    by (inl h) = h.1
-    by (inr h) = let w : false ≡ true = ap (λ (x : Went). x.went) (sym h) ∙ e in cc
+  pub step_goes : (s : StateOf S) (c : ℕ) → Goes s (step_by answering s c)
+  step_goes s c = step_front_goes s c (next_request (limits_of s.geometry) (seat_at s c)) refl
 
-one_more_by : (s : State) (f g : State → Went) (went : Bool) → (round s).went ≡ went → (went ≡ true → f (round s).state ≡ g (round s).state)
-    → (if went then behind (round s) f else round s) ≡ (if went then behind (round s) g else round s)
-one_more_by s f g true e h = ap (λ (r : Went). record { state = r.state; events = (round s).events ++ r.events; went = (round s).went || r.went }) (h refl)
-one_more_by s f g false e h = refl
+  pub round_from_goes : (count c : ℕ) (s : StateOf S) → Goes s (round_from_by answering count c s)
+  round_from_goes zero c s = inr refl
+  round_from_goes (suc count) c s = goes_behind s (step_by answering s c) (round_from_by answering count (c + 1)) (step_goes s c) (round_from_goes count (c + 1))
 
-pub more_fuel : (m n : ℕ) (s : State) → bytes_waiting s.seats < m → bytes_waiting s.seats < n → rounds m s ≡ rounds n s
-more_fuel zero n s h k = absurd (omega (arith, h))
-more_fuel (suc m) zero s h k = absurd (omega (arith, k))
-more_fuel (suc m) (suc n) s h k =
-    one_more_by s (rounds m) (rounds n) (round s).went refl
-    (λ e. let t : bytes_waiting (round s).state.seats < bytes_waiting s.seats = round_took s e in
-    more_fuel m n (round s).state (omega (arith, t, h)) (omega (arith, t, k)))
+  pub round_goes : (s : StateOf S) → Goes s (round_by answering s)
+  round_goes s = round_from_goes (length s.seats) 0 s
 
--- on with draining, where the last round went
-abbrev pub drained_if : Bool → State → Went
-drained_if went s = if went then drained s else idle s
+  pub round_took : (s : StateOf S) → (round_by answering s).went ≡ true → bytes_waiting (round_by answering s).state.seats < bytes_waiting s.seats
+  round_took s e = by (round_goes s)
+    where
+      by : Goes s (round_by answering s) → bytes_waiting (round_by answering s).state.seats < bytes_waiting s.seats
+      by (inl h) = h.1
+      by (inr h) = let w : false ≡ true = ap (λ (x : WentOf S). x.went) (sym h) ∙ e in cc
 
-onward : (w : Went) (went : Bool) → w.went ≡ went → (if went then behind w drained else w) ≡ behind w (drained_if w.went)
-onward w true e = ap (λ (b : Bool). behind w (drained_if b)) (sym e)
-onward w false e = sym (ap (λ (b : Bool). behind w (drained_if b)) e ∙ behind_idle w)
+  one_more_by : (s : StateOf S) (f g : StateOf S → WentOf S) (went : Bool) → (round_by answering s).went ≡ went → (went ≡ true → f (round_by answering s).state ≡ g (round_by answering s).state)
+      → (if went then behind (round_by answering s) f else round_by answering s) ≡ (if went then behind (round_by answering s) g else round_by answering s)
+  one_more_by s f g true e h = ap (λ (r : WentOf S). record { state = r.state; events = (round_by answering s).events ++ r.events; went = (round_by answering s).went || r.went }) (h refl)
+  one_more_by s f g false e h = refl
 
--- draining is a round, and then draining if it went
-pub drain_front : (s : State) → drained s ≡ behind (round s) (drained_if (round s).went)
-drain_front s =
-    let k : bytes_waiting s.seats + 1 ≡ suc (bytes_waiting s.seats) = omega arith in
-    ap (λ (n : ℕ). rounds n s) k
-    ∙ one_more_by s (rounds (bytes_waiting s.seats)) drained (round s).went refl
-    (λ e. let t : bytes_waiting (round s).state.seats < bytes_waiting s.seats = round_took s e in
-    more_fuel _ _ (round s).state t (omega arith))
-    ∙ onward (round s) (round s).went refl
+  pub more_fuel : (m n : ℕ) (s : StateOf S) → bytes_waiting s.seats < m → bytes_waiting s.seats < n → rounds_by answering m s ≡ rounds_by answering n s
+  more_fuel zero n s h k = absurd (omega (arith, h))
+  more_fuel (suc m) zero s h k = absurd (omega (arith, k))
+  more_fuel (suc m) (suc n) s h k =
+      one_more_by s (rounds_by answering m) (rounds_by answering n) (round_by answering s).went refl
+      (λ e. let t : bytes_waiting (round_by answering s).state.seats < bytes_waiting s.seats = round_took s e in
+      more_fuel m n (round_by answering s).state (omega (arith, t, h)) (omega (arith, t, k)))
 
-pub drain_smaller : (s new : State) (went : Bool) → Becomes new went (round s) → bytes_waiting new.seats + (if went then 1 else 0) < bytes_waiting s.seats + 1
-drain_smaller s new went b = by (round_goes s) went b
-  where
-    by : Goes s (round s) → (went : Bool) → Becomes new went (round s) → bytes_waiting new.seats + (if went then 1 else 0) < bytes_waiting s.seats + 1
-    by (inl h) true b = let e : bytes_waiting new.seats ≡ bytes_waiting (round s).state.seats = ap (λ (t : State). bytes_waiting t.seats) b.state in omega (arith, h.1, e)
-    by (inl h) false b = let w : false ≡ true = b.answered ∙ h.0 in cc
-    by (inr h) went b =
-        let e : bytes_waiting new.seats ≡ bytes_waiting s.seats = ap (λ (t : State). bytes_waiting t.seats) b.state ∙ ap (λ (w : Went). bytes_waiting w.state.seats) h in
-        let f : went ≡ false = b.answered ∙ ap (λ (w : Went). w.went) h in
-        rw f (omega (arith, e))
+  -- on with draining, where the last round went
+  abbrev pub drained_if : Bool → StateOf S → WentOf S
+  drained_if went s = if went then drained_by answering s else idle s
 
-rounds_length_by : (m : ℕ) (s : State) (test : Bool) → ((t : State) → length (rounds m t).state.seats ≡ length t.seats)
-    → length (if test then behind (round s) (rounds m) else round s).state.seats ≡ length s.seats
-rounds_length_by m s true step = step (round s).state ∙ round_from_length (length s.seats) 0 s
-rounds_length_by m s false step = round_from_length (length s.seats) 0 s
+  onward : (w : WentOf S) (went : Bool) → w.went ≡ went → (if went then behind w (drained_by answering) else w) ≡ behind w (drained_if w.went)
+  onward w true e = ap (λ (b : Bool). behind w (drained_if b)) (sym e)
+  onward w false e = sym (ap (λ (b : Bool). behind w (drained_if b)) e ∙ behind_idle w)
 
-rounds_length : (m : ℕ) (s : State) → length (rounds m s).state.seats ≡ length s.seats
-rounds_length zero s = refl
-rounds_length (suc m) s = rounds_length_by m s (round s).went (rounds_length m)
+  -- draining is a round, and then draining if it went
+  pub drain_front : (s : StateOf S) → drained_by answering s ≡ behind (round_by answering s) (drained_if (round_by answering s).went)
+  drain_front s =
+      let k : bytes_waiting s.seats + 1 ≡ suc (bytes_waiting s.seats) = omega arith in
+      ap (λ (n : ℕ). rounds_by answering n s) k
+      ∙ one_more_by s (rounds_by answering (bytes_waiting s.seats)) (drained_by answering) (round_by answering s).went refl
+      (λ e. let t : bytes_waiting (round_by answering s).state.seats < bytes_waiting s.seats = round_took s e in
+      more_fuel _ _ (round_by answering s).state t (omega arith))
+      ∙ onward (round_by answering s) (round_by answering s).went refl
 
--- a line opens what it says
-pub led_length : (s : State) (x : Context) (line : ScriptLine) → length s.seats ≡ x.opens → length (led s line).state.seats ≡ (context_after x line).opens
-unfolding led
-led_length s x (lines.Geometry g) e = e
-led_length s x (lines.Open c) e = length_push s.seats empty_seat ∙ ap (λ (n : ℕ). n + 1) e
-led_length s x (lines.Say c bytes) e = length-set s.seats c _ ∙ e
-led_length s x lines.Drain e = rounds_length (bytes_waiting s.seats + 1) s ∙ e
+  pub drain_smaller : (s new : StateOf S) (went : Bool) → Becomes new went (round_by answering s) → bytes_waiting new.seats + (if went then 1 else 0) < bytes_waiting s.seats + 1
+  drain_smaller s new went b = by (round_goes s) went b
+    where
+      by : Goes s (round_by answering s) → (went : Bool) → Becomes new went (round_by answering s) → bytes_waiting new.seats + (if went then 1 else 0) < bytes_waiting s.seats + 1
+      by (inl h) true b = let e : bytes_waiting new.seats ≡ bytes_waiting (round_by answering s).state.seats = ap (λ (t : StateOf S). bytes_waiting t.seats) b.state in omega (arith, h.1, e)
+      by (inl h) false b = let w : false ≡ true = b.answered ∙ h.0 in cc
+      by (inr h) went b =
+          let e : bytes_waiting new.seats ≡ bytes_waiting s.seats = ap (λ (t : StateOf S). bytes_waiting t.seats) b.state ∙ ap (λ (w : WentOf S). bytes_waiting w.state.seats) h in
+          let f : went ≡ false = b.answered ∙ ap (λ (w : WentOf S). w.went) h in
+          rw f (omega (arith, e))
+
+  rounds_length_by : (m : ℕ) (s : StateOf S) (test : Bool) → ((t : StateOf S) → length (rounds_by answering m t).state.seats ≡ length t.seats)
+      → length (if test then behind (round_by answering s) (rounds_by answering m) else round_by answering s).state.seats ≡ length s.seats
+  rounds_length_by m s true more = more (round_by answering s).state ∙ round_from_length answering (length s.seats) 0 s
+  rounds_length_by m s false more = round_from_length answering (length s.seats) 0 s
+
+  rounds_length : (m : ℕ) (s : StateOf S) → length (rounds_by answering m s).state.seats ≡ length s.seats
+  rounds_length zero s = refl
+  rounds_length (suc m) s = rounds_length_by m s (round_by answering s).went (rounds_length m)
+
+  -- a line opens what it says
+  pub led_length : (s : StateOf S) (x : Context) (line : ScriptLine) → length s.seats ≡ x.opens → length (led_by answering s line).state.seats ≡ (context_after x line).opens
+  unfolding led_by
+  led_length s x (lines.Geometry g) e = e
+  led_length s x (lines.Open c) e = length_push s.seats empty_seat ∙ ap (λ (n : ℕ). n + 1) e
+  led_length s x (lines.Say c bytes) e = length-set s.seats c _ ∙ e
+  led_length s x lines.Drain e = rounds_length (bytes_waiting s.seats + 1) s ∙ e

@@ -6,6 +6,7 @@ pub mod Lines
 pub mod Context
 pub mod Says
 pub mod Fit
+pub mod SaysBytes
 pub mod Quiet
 pub mod Reading
 pub mod History
@@ -13,6 +14,8 @@ pub mod Own
 pub mod Events
 pub mod Seats
 pub mod State
+pub mod Tables
+pub mod Asked
 pub mod Becomes
 pub mod Run
 pub mod Headline

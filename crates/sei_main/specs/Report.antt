@@ -7,7 +7,7 @@ use Rattle.sei_main.specs.declared.script.line.ScriptLine.{ScriptLine}
 use Rattle.sei_main.specs.declared.script.line.Why.{Why}
 use Rattle.sei_main.specs.declared.script.line.Why.TheVariants.{UnfinishedLine, GeometryMissing, UnknownLine, BadLine, GeometryOutOfLimits, TooManyConnections, WrongNumber, UnknownConnection, TooBig}
 use Rattle.sei_main.specs.Seats.{Seat, waiting}
-use Rattle.sei_main.specs.State.{State, Told, led}
+use Rattle.sei_main.specs.State.{Answering, StateOf, ToldOf, led_by}
 use Rattle.sei_main.specs.Events.{Event, Entered, Sent, Closed}
 
 abbrev pub reply_text : List ℕ → List ℕ
@@ -65,14 +65,14 @@ abbrev pub seats_text : ℕ → List Seat → List ℕ
 seats_text c [] = []
 seats_text c (seat ∷ seats) = seat_text c seat ++ seats_text (c + 1) seats
 
-abbrev pub closing_text : State → List ℕ
+abbrev pub closing_text : {S : Type 0} → StateOf S → List ℕ
 closing_text state = seats_text 0 state.seats ++ codes "end ok\n"
 
 -- what a line of a script makes the report say
-abbrev pub line_text : Bool → State → ScriptLine → List ℕ
-line_text history state line = events_text history (led state line).events
+abbrev pub line_text_by : {S : Type 0} → Answering S → Bool → StateOf S → ScriptLine → List ℕ
+line_text_by answering history state line = events_text history (led_by answering state line).events
 
-abbrev pub report_of : Bool → Told → List ℕ
+abbrev pub report_of : {S : Type 0} → Bool → ToldOf S → List ℕ
 report_of history t = events_text history t.events ++ closing_text t.state
 
 abbrev pub why_text : Why → List ℕ

@@ -1,4 +1,5 @@
 -- The world of a script: its server and its connections, and what a line of the script does to them.
+-- The server is any value with a function that answers calls; names that end in `_by` take that function.
 use Rattle.std.specs.Prelude.{ℕ, zero, suc, ◌+◌, ◌*◌, Bool, true, false, ◌||◌, List, [], ◌∷◌, ◌++◌, length, slice_index_or, slice_set, if◌then◌else◌, Option, Some, None}
 use Rattle.std.specs.List.{flat_map}
 use Rattle.mc_model.specs.declared.geometry.Geometry.{Geometry}
@@ -14,28 +15,25 @@ use Rattle.sei_main.specs.Own.{message_of, messages_of}
 use Rattle.sei_main.specs.Events.{Event, Entered, Sent, Closed, entries_of}
 use Rattle.sei_main.specs.Seats.{Seat, empty_seat, waiting, fed_more, taken_more}
 
-pub record State : Type 0 where
+-- how a server of some kind answers a call at a time: the server behind it, and the reply
+abbrev pub Answering : Type 0 → Type 0
+Answering S = S → ℕ → Placed → S × List ℕ
+
+pub record StateOf (S : Type 0) : Type 0 where
   pub geometry : Geometry
-  pub server : Server
+  pub server : S
   pub seats : List Seat
 
 -- a state with all events that led to it
-pub record Told : Type 0 where
-  pub state : State
+pub record ToldOf (S : Type 0) : Type 0 where
+  pub state : StateOf S
   pub events : List Event
 
 -- what a step makes: the next state, its own events, and whether a request was answered
-pub record Went : Type 0 where
-  pub state : State
+pub record WentOf (S : Type 0) : Type 0 where
+  pub state : StateOf S
   pub events : List Event
   pub went : Bool
-
-abbrev pub idle : State → Went
-idle s = record { state = s; events = []; went = false }
-
--- what is told behind a step
-abbrev pub told : Told → Went → Told
-told t w = record { state = w.state; events = t.events ++ w.events }
 
 -- a value has eight bytes for each value word
 abbrev pub limits_of : Geometry → Limits
@@ -53,79 +51,119 @@ entry_for c number placed reply = record { connection = c; number = number; buck
 abbrev pub entry_events : Entry → List Event
 entry_events entry = Entered entry ∷ flat_map (λ bytes. Sent entry.connection bytes ∷ []) (message_of entry.reply)
 
--- calls of connection c are answered, numbered from `number` on: the server behind them, and what happens
-abbrev pub answers : ℕ → ℕ → Server → List Placed → Server × List Event
-answers c number server [] = (server, [])
-answers c number server (placed ∷ later) =
-    let answer = server_answer server clock_answer placed in
-    let rest = answers c (number + 1) answer.0 later in
-    (rest.0, entry_events (entry_for c number placed answer.1) ++ rest.1)
-
 abbrev pub closed_events : ℕ → Bool → List Event
 closed_events c closes = if closes then Closed c ∷ [] else []
-
--- connection c, which stands so, takes a request of so many bytes: all its calls are answered
-abbrev pub takes_request : State → ℕ → Seat → ℕ → Meaning → Went
-takes_request s c seat size meaning =
-    let calls = calls_of s.geometry.buckets meaning in
-    let a = answers c seat.entered s.server calls in
-    let closes = ends_connection meaning in
-    record {
-      state = record s {
-        server = a.0;
-        seats = slice_set s.seats c (taken_more seat size (length calls) (length (messages_of (entries_of a.1))) closes);
-      };
-      events = a.1 ++ closed_events c closes;
-      went = true;
-    }
-
-abbrev pub step_front : State → ℕ → Seat → Option (ℕ × Meaning) → Went
-step_front s c seat None = idle s
-step_front s c seat (Some request) = takes_request s c seat request.0 request.1
-
--- connection c; one that is not there is like one that was fed nothing
-abbrev pub seat_at : State → ℕ → Seat
-seat_at s c = slice_index_or s.seats c empty_seat
 
 -- the first whole request that waits at an open connection
 abbrev pub next_request : Limits → Seat → Option (ℕ × Meaning)
 next_request limits seat = if seat.closed then None else front limits (waiting seat)
 
--- one step of a connection
-abbrev pub step : State → ℕ → Went
-step s c = step_front s c (seat_at s c) (next_request (limits_of s.geometry) (seat_at s c))
-
--- one step and then others
-abbrev pub behind : Went → (State → Went) → Went
-behind w f = record { state = (f w.state).state; events = w.events ++ (f w.state).events; went = w.went || (f w.state).went }
-
--- one step of each of `count` connections from c on
-abbrev pub round_from : ℕ → ℕ → State → Went
-round_from zero c s = idle s
-round_from (suc count) c s = behind (step s c) (round_from count (c + 1))
-
-abbrev pub round : State → Went
-round s = round_from (length s.seats) 0 s
-
--- rounds up to the first in which no connection went
-abbrev pub rounds : ℕ → State → Went
-rounds zero s = idle s
-rounds (suc most) s = if (round s).went then behind (round s) (rounds most) else round s
-
 abbrev pub bytes_waiting : List Seat → ℕ
 bytes_waiting [] = 0
 bytes_waiting (seat ∷ seats) = (if seat.closed then 0 else length (waiting seat)) + bytes_waiting seats
 
--- each round that goes takes a byte
-abbrev pub drained : State → Went
-drained s = rounds (bytes_waiting s.seats + 1) s
+module _ {S : Type 0} where
+  abbrev pub idle : StateOf S → WentOf S
+  idle s = record { state = s; events = []; went = false }
 
-abbrev pub fed : State → ℕ → List ℕ → State
-fed s c bytes = record s { seats = slice_set s.seats c (fed_more (seat_at s c) bytes) }
+  -- what is told behind a step
+  abbrev pub told : ToldOf S → WentOf S → ToldOf S
+  told t w = record { state = w.state; events = t.events ++ w.events }
 
--- what a line of a script does
-unfoldable pub led : State → ScriptLine → Went
-led s (lines.Geometry g) = idle s
-led s (lines.Open c) = idle (record s { seats = s.seats ++ empty_seat ∷ [] })
-led s (lines.Say c bytes) = idle (fed s c bytes)
-led s lines.Drain = drained s
+  -- one step and then others
+  abbrev pub behind : WentOf S → (StateOf S → WentOf S) → WentOf S
+  behind w f = record { state = (f w.state).state; events = w.events ++ (f w.state).events; went = w.went || (f w.state).went }
+
+  -- connection c; one that is not there is like one that was fed nothing
+  abbrev pub seat_at : StateOf S → ℕ → Seat
+  seat_at s c = slice_index_or s.seats c empty_seat
+
+  abbrev pub fed : StateOf S → ℕ → List ℕ → StateOf S
+  fed s c bytes = record s { seats = slice_set s.seats c (fed_more (seat_at s c) bytes) }
+
+module _ {S : Type 0} (answering : Answering S) where
+  -- calls of connection c are answered, numbered from `number` on: the server behind them, and what happens
+  abbrev pub answers_by : ℕ → ℕ → S → List Placed → S × List Event
+  answers_by c number server [] = (server, [])
+  answers_by c number server (placed ∷ later) =
+      let answer = answering server clock_answer placed in
+      let rest = answers_by c (number + 1) answer.0 later in
+      (rest.0, entry_events (entry_for c number placed answer.1) ++ rest.1)
+
+  -- connection c, which stands so, takes a request of so many bytes: all its calls are answered
+  abbrev pub takes_request_by : StateOf S → ℕ → Seat → ℕ → Meaning → WentOf S
+  takes_request_by s c seat size meaning =
+      let calls = calls_of s.geometry.buckets meaning in
+      let a = answers_by c seat.entered s.server calls in
+      let closes = ends_connection meaning in
+      record {
+        state = record s {
+          server = a.0;
+          seats = slice_set s.seats c (taken_more seat size (length calls) (length (messages_of (entries_of a.1))) closes);
+        };
+        events = a.1 ++ closed_events c closes;
+        went = true;
+      }
+
+  abbrev pub step_front_by : StateOf S → ℕ → Seat → Option (ℕ × Meaning) → WentOf S
+  step_front_by s c seat None = idle s
+  step_front_by s c seat (Some request) = takes_request_by s c seat request.0 request.1
+
+  -- one step of a connection
+  abbrev pub step_by : StateOf S → ℕ → WentOf S
+  step_by s c = step_front_by s c (seat_at s c) (next_request (limits_of s.geometry) (seat_at s c))
+
+  -- one step of each of `count` connections from c on
+  abbrev pub round_from_by : ℕ → ℕ → StateOf S → WentOf S
+  round_from_by zero c s = idle s
+  round_from_by (suc count) c s = behind (step_by s c) (round_from_by count (c + 1))
+
+  abbrev pub round_by : StateOf S → WentOf S
+  round_by s = round_from_by (length s.seats) 0 s
+
+  -- rounds up to the first in which no connection went
+  abbrev pub rounds_by : ℕ → StateOf S → WentOf S
+  rounds_by zero s = idle s
+  rounds_by (suc most) s = if (round_by s).went then behind (round_by s) (rounds_by most) else round_by s
+
+  -- each round that goes takes a byte
+  abbrev pub drained_by : StateOf S → WentOf S
+  drained_by s = rounds_by (bytes_waiting s.seats + 1) s
+
+  -- what a line of a script does
+  unfoldable pub led_by : StateOf S → ScriptLine → WentOf S
+  led_by s (lines.Geometry g) = idle s
+  led_by s (lines.Open c) = idle (record s { seats = s.seats ++ empty_seat ∷ [] })
+  led_by s (lines.Say c bytes) = idle (fed s c bytes)
+  led_by s lines.Drain = drained_by s
+
+-- the same of the plain server
+abbrev pub State : Type 0
+State = StateOf Server
+
+abbrev pub Told : Type 0
+Told = ToldOf Server
+
+abbrev pub Went : Type 0
+Went = WentOf Server
+
+abbrev pub answers : ℕ → ℕ → Server → List Placed → Server × List Event
+answers = answers_by server_answer
+
+abbrev pub takes_request : State → ℕ → Seat → ℕ → Meaning → Went
+takes_request = takes_request_by server_answer
+
+abbrev pub step_front : State → ℕ → Seat → Option (ℕ × Meaning) → Went
+step_front = step_front_by server_answer
+
+abbrev pub step : State → ℕ → Went
+step = step_by server_answer
+
+abbrev pub round_from : ℕ → ℕ → State → Went
+round_from = round_from_by server_answer
+
+abbrev pub round : State → Went
+round = round_by server_answer
+
+abbrev pub rounds : ℕ → State → Went
+rounds = rounds_by server_answer

@@ -6,6 +6,7 @@ mod report;
 mod run;
 mod script;
 mod status;
+mod tables;
 #[cfg(test)]
 mod tests;
 mod world;

@@ -1,11 +1,13 @@
-ghost use Rattle.std.specs.Prelude.{◌≡◌, ◌≢◌, ◌≤◌, IfSome, OnOk, length};
+ghost use Rattle.std.specs.Prelude.{◌≡◌, ◌≢◌, ◌≤◌, IfSome, OnOk, length, All};
 ghost use Rattle.std.specs.Io.KnownBytes.{IsAtEnd, append_known};
 ghost use Rattle.sei_outside.specs.Faults.{Rose};
 ghost use Rattle.sei_outside.specs.Bytes.{WrotePart};
 ghost use Rattle.mc_model.specs.Server.{IsValid};
 ghost use Rattle.sei_main.specs.Context.{empty_context, geometry_of};
 ghost use Rattle.sei_main.specs.Fit.{AreFit};
-ghost use Rattle.sei_main.specs.Run.{run_of};
+ghost use Rattle.sei_main.specs.State.{limits_of};
+ghost use Rattle.sei_main.specs.SaysBytes.{SaysBytes};
+ghost use Rattle.sei_main.specs.Run.{run_by, run_of};
 ghost use Rattle.sei_main.specs.Report.{report_of};
 ghost use Rattle.sei_main.specs.Headline.{IsLegalRun, IsNumberedRun, SendsRepliesRun, AnswersAllRun};
 ghost use Rattle.sei_main.specs.Answers.{Answered, OnInput, IsReplayStatus, Refused, IsDecided, reading_in};
@@ -13,27 +15,46 @@ ghost use Rattle.sei_main.specs.Answers.{Answered, OnInput, IsReplayStatus, Refu
 use crate::report::{Reporter, Stop, refusal_text, write_closing, write_text};
 use crate::script::{LIMIT, Script, ScriptFault, Why, read_script};
 use crate::status::Status;
-use crate::world::World;
+use crate::tables::TableServer;
+use crate::world::{Service, World};
 use sei_outside::{Sink, Source, Unread, read_all};
 use std::alloc::Global;
+
+/// Runs a script on a server that was asked nothing yet, and writes its report as things happen.
+fn run_on<S: Service + Drop, K: Sink>(
+    reporter: Reporter,
+    server: S,
+    script: &Script,
+    sink: &mut K,
+) -> Result<(), Stop>
+    requires fit { AreFit empty_context script.now }
+    requires geometry { IsValid (geometry_of script.now) }
+    requires limits { S.limits server ≡ limits_of (geometry_of script.now) }
+    ensures all { OnOk result (K.written sink.new ≡ append_known (K.written sink.old) (report_of reporter.history (run_by S.answering server script.now))) }
+    ensures part { WrotePart (K.written sink.old) (K.written sink.new) (report_of reporter.history (run_by S.answering server script.now)) }
+    ensures fault { result ≡ Err Stop.WriteFault → Rose (K.faults sink.old) (K.faults sink.new) }
+    ensures later { K.faults sink.old ≤ K.faults sink.new }
+{
+    let mut world = World::new(reporter.alloc, script.geometry(), server);
+    for line in script.lines() {
+        world.apply(reporter, line, sink)?;
+    }
+    write_closing(reporter.alloc, sink, world.connections())
+}
 
 /// Runs a script and writes its report as things happen.
 fn run_script<K: Sink>(reporter: Reporter, script: &Script, sink: &mut K) -> Result<(), Stop>
     requires fit { AreFit empty_context script.now }
     requires geometry { IsValid (geometry_of script.now) }
+    requires bytes { All SaysBytes script.now }
     ensures all { OnOk result (K.written sink.new ≡ append_known (K.written sink.old) (report_of reporter.history (run_of script.now))) }
     ensures part { WrotePart (K.written sink.old) (K.written sink.new) (report_of reporter.history (run_of script.now)) }
     ensures fault { result ≡ Err Stop.WriteFault → Rose (K.faults sink.old) (K.faults sink.new) }
     ensures later { K.faults sink.old ≤ K.faults sink.new }
 {
-    match World::new(reporter.alloc, script.geometry()) {
+    match TableServer::new(reporter.alloc, script.geometry()) {
         Err(_) => Err(Stop::Memory),
-        Ok(mut world) => {
-            for line in script.lines() {
-                world.apply(reporter, line, sink)?;
-            }
-            write_closing(reporter.alloc, sink, world.connections())
-        }
+        Ok(server) => run_on(reporter, server, script, sink),
     }
 }
 
@@ -133,4 +154,48 @@ pub fn replay<S: Source, K: Sink>(
     ensures all_answered { result ≡ Status.Ok → OnInput (S.left source.old) AnswersAllRun }
 {
     replay_all(alloc, source, sink, history)
+}
+
+#[cfg(test)]
+mod tests {
+    use super::*;
+    use mc_model::PlainServer;
+    use sei_outside::MemorySink;
+    use std::test::Fail;
+
+    /// Items that are made, replaced, read, expired and refused, in two buckets of two slots each.
+    const SCRIPT: &[u8] = b"geometry 2 2 3
+open 0 plain
+say 0 set a 7 0 3\\r\\nabc\\r\\nget a b\\r\\nset a 0 0 0\\r\\n\\r\\nget a\\r\\n
+drain
+say 0 set b 1 100 24\\r\\n012345678901234567890123\\r\\nset c 2 -1 1\\r\\nx\\r\\nget c b a c\\r\\n
+say 0 set d 0 0 1 noreply\\r\\nd\\r\\nset e 4294967295 2592001 2\\r\\nee\\r\\nget d e\\r\\n
+drain
+say 0 set f 0 0 1\\r\\nf\\r\\nset g 0 0 1\\r\\ng\\r\\nset h 0 0 1\\r\\nh\\r\\nget a b c d e f g h\\r\\n
+say 0 set a 0 0 25\\r\\n0123456789012345678901234\\r\\nversion\\r\\nverbosity 1 noreply\\r\\nnone\\r\\n
+drain
+";
+
+    #[test]
+    fn words_answer_as_the_plain_server(rt: HostRuntime) -> Result<(), Fail> {
+        let alloc = rt.alloc();
+        match read_script(alloc, SCRIPT) {
+            Err(_) => assert!(rt; false, "the script reads"),
+            Ok(script) => {
+                let reporter = Reporter {
+                    alloc,
+                    history: true,
+                };
+                let mut plain = MemorySink::new(alloc, 100_000, Vec::new(alloc))?;
+                let server = PlainServer::new(alloc, script.geometry())?;
+                assert!(rt; run_on(reporter, server, &script, &mut plain).is_ok());
+                let mut words = MemorySink::new(alloc, 100_000, Vec::new(alloc))?;
+                let server = TableServer::new(alloc, script.geometry())?;
+                assert!(rt; run_on(reporter, server, &script, &mut words).is_ok());
+                assert_eq!(rt; words.bytes(), plain.bytes());
+                assert!(rt; words.bytes().len() > 1000);
+            }
+        }
+        Ok(())
+    }
 }

@@ -1,7 +1,9 @@
 //! The world of a script: one server, and the connections that ask it.
 
 mod connection;
+mod service;
 mod state;
 
 pub use connection::Connection;
+pub use service::Service;
 pub use state::World;

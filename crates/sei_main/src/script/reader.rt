@@ -1,9 +1,10 @@
-ghost use Rattle.std.specs.Prelude.{◌≡◌, ◌≤◌, IfOk, length, drop};
+ghost use Rattle.std.specs.Prelude.{◌≡◌, ◌≤◌, IfOk, length, drop, All};
 ghost use Rattle.mc_model.specs.Server.{IsValid};
 ghost use Rattle.sei_main.specs.declared.script.reader.ScriptFault.TheVariants.{Memory};
 ghost use Rattle.sei_main.specs.Limits.{script_limit};
 ghost use Rattle.sei_main.specs.Context.{empty_context, context_of, geometry_of};
 ghost use Rattle.sei_main.specs.Fit.{AreFit};
+ghost use Rattle.sei_main.specs.SaysBytes.{SaysBytes};
 ghost use Rattle.sei_main.specs.Reading.{Answers, ends_at, reading_of};
 
 use super::line::{Context, Said, ScriptLine, Why};
@@ -77,6 +78,7 @@ pub fn read_script(alloc: Global, bytes: &[u8]) -> Result<Script, ScriptFault>
     ensures answer { Answers (reading_of script_limit bytes.now) result }
     ensures fit { IfOk result (λ script. AreFit empty_context script) }
     ensures geometry { IfOk result (λ script. IsValid (geometry_of script)) }
+    ensures bytes { IfOk result (λ script. All SaysBytes script) }
 {
     if bytes.len() > LIMIT {
         return Err(ScriptFault::Line {

@@ -1,21 +1,24 @@
-ghost use Rattle.std.specs.Prelude.{◌≡◌, ◌+◌, ◌<◌, ◌≤◌, ◌++◌, ◌∷◌, [], ◌^◌, List, length, take, OnOk, IfOk, slice_set, slice_index_or, Some, if◌then◌else◌};
+ghost use Rattle.std.specs.Prelude.{◌≡◌, ◌+◌, ◌<◌, ◌≤◌, [], ◌^◌, length, OnOk, IfOk, slice_set, slice_index_or};
 ghost use Rattle.std.specs.Io.KnownBytes.{append_known};
 ghost use Rattle.sei_outside.specs.Faults.{Rose};
 ghost use Rattle.sei_outside.specs.Bytes.{WrotePart};
-ghost use Rattle.mc_model.specs.Server.{IsValid, empty_server, server_answer};
+ghost use Rattle.mc_model.specs.Server.{IsValid};
 ghost use Rattle.mc_model.specs.Views.{placed_of, IsSpanOf};
-ghost use Rattle.mc_text.specs.Reading.{IsReading, IsOf, meaning_at, calls_at, buckets_of};
+ghost use Rattle.mc_text.specs.Fits.{HasOwnHash};
+ghost use Rattle.mc_text.specs.Reading.{IsReading, calls_at};
 ghost use Rattle.sei_main.specs.Own.{is_message, messages_of};
 ghost use Rattle.sei_main.specs.Events.{entries_of};
-ghost use Rattle.sei_main.specs.Seats.{empty_seat, fed_more, taken_more, waiting};
-ghost use Rattle.sei_main.specs.State.{State, Went, limits_of, clock_answer, entry_for, entry_events, answers, step, round, led};
-ghost use Rattle.sei_main.specs.Becomes.{Becomes, IsNext, IsKnown, StandsFirst, answers_to, events_to, seat_behind};
-ghost use Rattle.sei_main.specs.Report.{events_text, line_text};
+ghost use Rattle.sei_main.specs.Seats.{empty_seat, fed_more};
+ghost use Rattle.sei_main.specs.State.{limits_of, clock_answer, entry_for, entry_events, answers_by, step_by, round_by, led_by};
+ghost use Rattle.sei_main.specs.Asked.{IsCallAt};
+ghost use Rattle.sei_main.specs.Becomes.{Becomes, IsNext, IsNextOf, IsKnown, answers_to, events_to, seat_behind};
+ghost use Rattle.sei_main.specs.Report.{events_text, line_text_by};
 
 use super::connection::Connection;
+use super::service::Service;
 use crate::report::{Reporter, Stop};
 use crate::script::ScriptLine;
-use mc_model::{CallSpan, Geometry, PlainServer};
+use mc_model::{CallSpan, Geometry};
 use mc_text::{Limits, ReadRequest, Request, parse, read_request};
 use sei_code::Memory;
 use sei_outside::Sink;
@@ -27,46 +30,49 @@ const CLOCK: u64 = 0;
 
 /// A server, and the connections that were opened to it.
 #[derive(Drop)]
-pub struct World {
+pub struct World<S: Service> {
     alloc: Global,
     geometry: Geometry,
-    server: PlainServer,
+    server: S,
     connections: Vec<Connection>,
 }
 
-impl Model for World {
-    ghost use Rattle.std.specs.Prelude.{◌≡◌, length};
+impl<S: Service> Model for World<S> {
+    ghost use Rattle.std.specs.Prelude.{◌≡◌};
     ghost use Rattle.mc_model.specs.Server.{IsValid};
-    ghost use Rattle.sei_main.specs.State.{State};
+    ghost use Rattle.sei_main.specs.State.{StateOf, limits_of};
 
-    ghost Value = { State };
+    ghost Value = { StateOf S };
 
     ghost view = { λ w. record { geometry = w.geometry; server = w.server; seats = w.connections.items } };
 
-    ghost invariant = { λ w. IsValid w.geometry × (length w.server.buckets ≡ w.geometry.buckets) };
+    ghost invariant = { λ w. IsValid w.geometry × (S.limits w.server ≡ limits_of w.geometry) };
 }
 
-/// Answers a call at its bucket, and writes its entry and its message; whether it has a message.
-fn answer_call<K: Sink>(
-    server: &mut PlainServer,
+/// Answers a call, and writes its entry, which has this number, and its message; whether it has a
+/// message.
+fn answer_call<S: Service, K: Sink>(
+    server: &mut S,
     reporter: Reporter,
     c: u32,
     number: u64,
     text: &[u8],
+    nth: u64,
     call: &CallSpan,
     sink: &mut K,
 ) -> Result<bool, Stop>
     requires span { IsSpanOf text.now call.now }
-    requires bucket { call.now.bucket < length server.old.buckets }
-    ensures server { OnOk result (server.new ≡ (server_answer server.old clock_answer (placed_of text.now call.now)).0) }
-    ensures sent { IfOk result (λ sent. sent ≡ is_message (server_answer server.old clock_answer (placed_of text.now call.now)).1) }
-    ensures size { length server.new.buckets ≡ length server.old.buckets }
-    ensures all { OnOk result (K.written sink.new ≡ append_known (K.written sink.old) (events_text reporter.history (entry_events (entry_for c number (placed_of text.now call.now) (server_answer server.old clock_answer (placed_of text.now call.now)).1)))) }
-    ensures part { WrotePart (K.written sink.old) (K.written sink.new) (events_text reporter.history (entry_events (entry_for c number (placed_of text.now call.now) (server_answer server.old clock_answer (placed_of text.now call.now)).1))) }
+    requires hash { HasOwnHash text.now call.now }
+    requires call { IsCallAt (S.limits server.old) text.now nth (placed_of text.now call.now) }
+    ensures server { OnOk result (server.new ≡ (S.answering server.old clock_answer (placed_of text.now call.now)).0) }
+    ensures sent { IfOk result (λ sent. sent ≡ is_message (S.answering server.old clock_answer (placed_of text.now call.now)).1) }
+    ensures limits { S.limits server.new ≡ S.limits server.old }
+    ensures all { OnOk result (K.written sink.new ≡ append_known (K.written sink.old) (events_text reporter.history (entry_events (entry_for c number (placed_of text.now call.now) (S.answering server.old clock_answer (placed_of text.now call.now)).1)))) }
+    ensures part { WrotePart (K.written sink.old) (K.written sink.new) (events_text reporter.history (entry_events (entry_for c number (placed_of text.now call.now) (S.answering server.old clock_answer (placed_of text.now call.now)).1))) }
     ensures fault { result ≡ Err Stop.WriteFault → Rose (K.faults sink.old) (K.faults sink.new) }
     ensures later { K.faults sink.old ≤ K.faults sink.new }
 {
-    match server.answer(CLOCK, text, call) {
+    match server.answer(CLOCK, text, nth, call) {
         Err(_) => Err(Stop::Memory),
         Ok(reply) => {
             reporter.write_entry(sink, c, number, call.bucket, CLOCK, reply.as_slice())?;
@@ -76,8 +82,8 @@ fn answer_call<K: Sink>(
 }
 
 /// Answers all calls of a request, numbered from `first` on; how many messages were sent.
-fn answer_calls<K: Sink>(
-    server: &mut PlainServer,
+fn answer_calls<S: Service, K: Sink>(
+    server: &mut S,
     reporter: Reporter,
     c: u32,
     first: u64,
@@ -85,16 +91,15 @@ fn answer_calls<K: Sink>(
     request: &Request,
     sink: &mut K,
 ) -> Result<u64, Stop>
-    requires of { IsOf text.now request.now }
+    requires reading { IsReading (S.limits server.old) text.now request.now }
     requires some { 0 < length text.now }
     requires few { first + length text.now < 2 ^ 64 }
-    requires buckets { buckets_of request.now ≤ length server.old.buckets }
-    ensures server { OnOk result (server.new ≡ (answers c first server.old (calls_at text.now request.now)).0) }
-    ensures messages { IfOk result (λ count. count ≡ length (messages_of (entries_of (answers c first server.old (calls_at text.now request.now)).1))) }
+    ensures server { OnOk result (server.new ≡ (answers_by S.answering c first server.old (calls_at text.now request.now)).0) }
+    ensures messages { IfOk result (λ count. count ≡ length (messages_of (entries_of (answers_by S.answering c first server.old (calls_at text.now request.now)).1))) }
     ensures few { IfOk result (λ count. count ≤ length (calls_at text.now request.now)) }
-    ensures size { length server.new.buckets ≡ length server.old.buckets }
-    ensures all { OnOk result (K.written sink.new ≡ append_known (K.written sink.old) (events_text reporter.history (answers c first server.old (calls_at text.now request.now)).1)) }
-    ensures part { WrotePart (K.written sink.old) (K.written sink.new) (events_text reporter.history (answers c first server.old (calls_at text.now request.now)).1) }
+    ensures limits { S.limits server.new ≡ S.limits server.old }
+    ensures all { OnOk result (K.written sink.new ≡ append_known (K.written sink.old) (events_text reporter.history (answers_by S.answering c first server.old (calls_at text.now request.now)).1)) }
+    ensures part { WrotePart (K.written sink.old) (K.written sink.new) (events_text reporter.history (answers_by S.answering c first server.old (calls_at text.now request.now)).1) }
     ensures fault { result ≡ Err Stop.WriteFault → Rose (K.faults sink.old) (K.faults sink.new) }
     ensures later { K.faults sink.old ≤ K.faults sink.new }
 {
@@ -102,7 +107,7 @@ fn answer_calls<K: Sink>(
     let mut cursor = request.cursor(text);
     for nth in 0..request.calls() {
         if let Some(call) = cursor.next(request, text) {
-            let sent = answer_call(server, reporter, c, first + nth, text, &call, sink)?;
+            let sent = answer_call(server, reporter, c, first + nth, text, nth, &call, sink)?;
             messages += sent as u64;
         }
     }
@@ -111,8 +116,8 @@ fn answer_calls<K: Sink>(
 
 /// The connection takes a request, which stands in the first `size` bytes that wait there: all its
 /// calls are answered.
-fn take_request<K: Sink>(
-    server: &mut PlainServer,
+fn take_request<S: Service, K: Sink>(
+    server: &mut S,
     connection: &mut Connection,
     reporter: Reporter,
     c: u32,
@@ -120,13 +125,12 @@ fn take_request<K: Sink>(
     request: &Request,
     sink: &mut K,
 ) -> Result<(), Stop>
-    requires first { StandsFirst connection.old size request.now }
-    requires buckets { buckets_of request.now ≤ length server.old.buckets }
-    ensures server { OnOk result (server.new ≡ (answers_to c server.old connection.old size request.now).0) }
-    ensures connection { OnOk result (connection.new ≡ seat_behind c server.old connection.old size request.now) }
-    ensures size { length server.new.buckets ≡ length server.old.buckets }
-    ensures all { OnOk result (K.written sink.new ≡ append_known (K.written sink.old) (events_text reporter.history (events_to c server.old connection.old size request.now))) }
-    ensures part { WrotePart (K.written sink.old) (K.written sink.new) (events_text reporter.history (events_to c server.old connection.old size request.now)) }
+    requires { IsNextOf (S.limits server.old) connection.old size request.now }
+    ensures server { OnOk result (server.new ≡ (answers_to S.answering c server.old connection.old size request.now).0) }
+    ensures connection { OnOk result (connection.new ≡ seat_behind S.answering c server.old connection.old size request.now) }
+    ensures limits { S.limits server.new ≡ S.limits server.old }
+    ensures all { OnOk result (K.written sink.new ≡ append_known (K.written sink.old) (events_text reporter.history (events_to S.answering c server.old connection.old size request.now))) }
+    ensures part { WrotePart (K.written sink.old) (K.written sink.new) (events_text reporter.history (events_to S.answering c server.old connection.old size request.now)) }
     ensures fault { result ≡ Err Stop.WriteFault → Rose (K.faults sink.old) (K.faults sink.new) }
     ensures later { K.faults sink.old ≤ K.faults sink.new }
 {
@@ -163,19 +167,20 @@ fn next_request(connection: &Connection, limits: &Limits) -> Option<(usize, Requ
     }
 }
 
-#[tactic(auto, unfolding(crate::specs::State::led))]
-impl World {
-    /// A world with an empty server and no connection.
-    pub fn new(alloc: Global, geometry: Geometry) -> Result<World, Memory>
-        requires { IsValid geometry }
-        ensures { IfOk result (λ world. world ≡ record { geometry = geometry; server = empty_server geometry; seats = [] }) }
+#[tactic(auto, unfolding(crate::specs::State::led_by))]
+impl<S: Service> World<S> {
+    /// A world with this server and no connection.
+    pub fn new(alloc: Global, geometry: Geometry, server: S) -> World<S>
+        requires geometry { IsValid geometry }
+        requires limits { S.limits server ≡ limits_of geometry }
+        ensures { result ≡ record { geometry = geometry; server = server; seats = [] } }
     {
-        Ok(World {
+        World {
             alloc,
             geometry,
-            server: PlainServer::new(alloc, geometry)?,
+            server,
             connections: Vec::new(alloc),
-        })
+        }
     }
 
     pub fn connections(&self) -> &[Connection]
@@ -195,7 +200,7 @@ impl World {
     }
 
     fn connect(&mut self) -> Result<(), Memory>
-        ensures { OnOk result (self.new ≡ (led self.old (ScriptLine.Open 0)).state) }
+        ensures { OnOk result (self.new ≡ (led_by S.answering self.old (ScriptLine.Open 0)).state) }
     {
         self.connections.push(Connection::new(self.alloc))?;
         Ok(())
@@ -203,7 +208,7 @@ impl World {
 
     fn feed(&mut self, c: u32, bytes: &[u8]) -> Result<(), Memory>
         requires { c < length self.old.seats }
-        ensures { OnOk result (self.new ≡ (led self.old (ScriptLine.Say c bytes.now)).state) }
+        ensures { OnOk result (self.new ≡ (led_by S.answering self.old (ScriptLine.Say c bytes.now)).state) }
     {
         feed_at(&mut self.connections, c as usize, bytes)
     }
@@ -211,9 +216,9 @@ impl World {
     /// One step of a connection: its first whole request is answered. Whether there was one.
     fn step<K: Sink>(&mut self, reporter: Reporter, c: u32, sink: &mut K) -> Result<bool, Stop>
         requires { c < length self.old.seats }
-        ensures state { IfOk result (λ went. Becomes self.new went (step self.old c)) }
-        ensures all { OnOk result (K.written sink.new ≡ append_known (K.written sink.old) (events_text reporter.history (step self.old c).events)) }
-        ensures part { WrotePart (K.written sink.old) (K.written sink.new) (events_text reporter.history (step self.old c).events) }
+        ensures state { IfOk result (λ went. Becomes self.new went (step_by S.answering self.old c)) }
+        ensures all { OnOk result (K.written sink.new ≡ append_known (K.written sink.old) (events_text reporter.history (step_by S.answering self.old c).events)) }
+        ensures part { WrotePart (K.written sink.old) (K.written sink.new) (events_text reporter.history (step_by S.answering self.old c).events) }
         ensures fault { result ≡ Err Stop.WriteFault → Rose (K.faults sink.old) (K.faults sink.new) }
         ensures later { K.faults sink.old ≤ K.faults sink.new }
     {
@@ -238,9 +243,9 @@ impl World {
     /// One step of each connection. Whether one of them answered a request.
     fn round<K: Sink>(&mut self, reporter: Reporter, sink: &mut K) -> Result<bool, Stop>
         requires { length self.old.seats < 2 ^ 32 }
-        ensures state { IfOk result (λ went. Becomes self.new went (round self.old)) }
-        ensures all { OnOk result (K.written sink.new ≡ append_known (K.written sink.old) (events_text reporter.history (round self.old).events)) }
-        ensures part { WrotePart (K.written sink.old) (K.written sink.new) (events_text reporter.history (round self.old).events) }
+        ensures state { IfOk result (λ went. Becomes self.new went (round_by S.answering self.old)) }
+        ensures all { OnOk result (K.written sink.new ≡ append_known (K.written sink.old) (events_text reporter.history (round_by S.answering self.old).events)) }
+        ensures part { WrotePart (K.written sink.old) (K.written sink.new) (events_text reporter.history (round_by S.answering self.old).events) }
         ensures fault { result ≡ Err Stop.WriteFault → Rose (K.faults sink.old) (K.faults sink.new) }
         ensures later { K.faults sink.old ≤ K.faults sink.new }
     {
@@ -256,9 +261,9 @@ impl World {
     /// Rounds up to the first in which no connection answers a request.
     fn drain<K: Sink>(&mut self, reporter: Reporter, sink: &mut K) -> Result<(), Stop>
         requires { length self.old.seats < 2 ^ 32 }
-        ensures state { OnOk result (self.new ≡ (led self.old ScriptLine.Drain).state) }
-        ensures all { OnOk result (K.written sink.new ≡ append_known (K.written sink.old) (line_text reporter.history self.old ScriptLine.Drain)) }
-        ensures part { WrotePart (K.written sink.old) (K.written sink.new) (line_text reporter.history self.old ScriptLine.Drain) }
+        ensures state { OnOk result (self.new ≡ (led_by S.answering self.old ScriptLine.Drain).state) }
+        ensures all { OnOk result (K.written sink.new ≡ append_known (K.written sink.old) (line_text_by S.answering reporter.history self.old ScriptLine.Drain)) }
+        ensures part { WrotePart (K.written sink.old) (K.written sink.new) (line_text_by S.answering reporter.history self.old ScriptLine.Drain) }
         ensures fault { result ≡ Err Stop.WriteFault → Rose (K.faults sink.old) (K.faults sink.new) }
         ensures later { K.faults sink.old ≤ K.faults sink.new }
     {
@@ -278,9 +283,9 @@ impl World {
     ) -> Result<(), Stop>
         requires few { length self.old.seats < 2 ^ 32 }
         requires known { IsKnown (length self.old.seats) line.now }
-        ensures state { OnOk result (self.new ≡ (led self.old line.now).state) }
-        ensures all { OnOk result (K.written sink.new ≡ append_known (K.written sink.old) (line_text reporter.history self.old line.now)) }
-        ensures part { WrotePart (K.written sink.old) (K.written sink.new) (line_text reporter.history self.old line.now) }
+        ensures state { OnOk result (self.new ≡ (led_by S.answering self.old line.now).state) }
+        ensures all { OnOk result (K.written sink.new ≡ append_known (K.written sink.old) (line_text_by S.answering reporter.history self.old line.now)) }
+        ensures part { WrotePart (K.written sink.old) (K.written sink.new) (line_text_by S.answering reporter.history self.old line.now) }
         ensures fault { result ≡ Err Stop.WriteFault → Rose (K.faults sink.old) (K.faults sink.new) }
         ensures later { K.faults sink.old ≤ K.faults sink.new }
     {

@@ -1,50 +1,25 @@
-use Rattle.std.proofs.Common.{◌≡◌, ◌+◌, [], ◌∙◌, ap, subst, arith, List, drop, length, get_or}
-use Rattle.std.proofs.lemmas.List.{drop_all}
+use Rattle.std.proofs.Common.{ap, ◌∙◌, subst}
 use Rattle.std.proofs.lemmas.Result.{on_ok_weaker}
-use Rattle.sei_main.specs.declared.script.line.ScriptLine.{ScriptLine}
-use Rattle.sei_main.proofs.Runs.{lines_front}
-use Rattle.sei_main.proofs.Fitting.{FitBehind, fit_next}
-use Rattle.sei_main.proofs.Running.{line_part, line_written, line_state, end_part, end_all}
+use Rattle.std.specs.Io.KnownBytes.{append_known}
+use Rattle.sei_outside.specs.Bytes.{WrotePart}
+use Rattle.sei_main.specs.Report.{report_of}
+use Rattle.sei_main.specs.Run.{run_by}
+use Rattle.sei_main.specs.Tables.{Tables, fresh_tables, table_answer}
+use Rattle.sei_main.proofs.TableRuns.{tables_report}
 use Rattle.sei_main.proofs.replay.run_script.Goals as goal
 
-pub returns-in_err-apply-in-Ok-clause-part : goal.returns-in_err-apply-in-Ok-clause-part
-returns-in_err-apply-in-Ok-clause-part g c =
-    let script : List ScriptLine = c.args.script.now in
-    let i = c.loop-line.line-index in
-    let line = c.line-item.result in
-    let e : c.lines-line-items.result.now ≡ script = c.lines-line-items.ensures in
-    let front = lines_front script i line (omega (arith, ap length e)) (c.line-item.is ∙ ap (λ (xs : List ScriptLine). get_or xs i line) e) in
-    line_part c.args.reporter.history _ _ _ script (drop i script) (drop (i + 1) script) c.loop-line.world line front c.loop-line.invariant.written c.apply.ensures.part
+pub returns-in-Ok-clause-all : goal.returns-in-Ok-clause-all
+returns-in-Ok-clause-all g c =
+    let script = c.args.script.now in
+    let history = c.args.reporter.history in
+    let fresh = c.in-Ok.ensures ∙ ap fresh_tables c.geometry.ensures in
+    let same = ap (λ (t : Tables). report_of history (run_by table_answer t script)) fresh ∙ tables_report script c.requires.geometry c.requires.bytes history in
+    on_ok_weaker c.run_on.result (λ e. e ∙ ap (append_known _) same) c.run_on.ensures.all
 
-pub loop-line-preserved : goal.loop-line-preserved
-loop-line-preserved g c =
-    let script : List ScriptLine = c.args.script.now in
-    let i = c.loop-line.line-index in
-    let line = c.line-item.result in
-    let e : c.lines-line-items.result.now ≡ script = c.lines-line-items.ensures in
-    let front = lines_front script i line (omega (arith, ap length e)) (c.line-item.is ∙ ap (λ (xs : List ScriptLine). get_or xs i line) e) in
-    let done = c.in_ok-apply-in-Ok.ensures in
-    record {
-      written = line_written c.args.reporter.history _ _ _ script (drop i script) (drop (i + 1) script) c.loop-line.world c.apply.new.self line front done.state c.loop-line.invariant.written done.all;
-      state = line_state (drop i script) (drop (i + 1) script) c.loop-line.world c.apply.new.self line front done.state ∙ c.loop-line.invariant.state;
-      fit = fit_next c.loop-line.world c.apply.new.self line (drop (i + 1) script) done.state (subst (λ (xs : List ScriptLine). FitBehind (length c.loop-line.world.seats) xs) front c.loop-line.invariant.fit);
-      later = omega (arith, c.loop-line.invariant.later, c.apply.ensures.later);
-    }
-
-pub returns-after-loop-line-clause-all : goal.returns-after-loop-line-clause-all
-returns-after-loop-line-clause-all g c =
-    let script : List ScriptLine = c.args.script.now in
-    let i = c.loop-line.line-index in
-    let e : c.lines-line-items.result.now ≡ script = c.lines-line-items.ensures in
-    let none : drop i script ≡ [] = drop_all i script (omega (arith, ap length e)) in
-    on_ok_weaker c.write_closing.result
-    (λ w. end_all c.args.reporter.history _ _ _ script (drop i script) c.loop-line.world c.connections.result.now none c.connections.ensures c.loop-line.invariant.written c.loop-line.invariant.state w)
-    c.write_closing.ensures.all
-
-pub returns-after-loop-line-clause-part : goal.returns-after-loop-line-clause-part
-returns-after-loop-line-clause-part g c =
-    let script : List ScriptLine = c.args.script.now in
-    let i = c.loop-line.line-index in
-    let e : c.lines-line-items.result.now ≡ script = c.lines-line-items.ensures in
-    let none : drop i script ≡ [] = drop_all i script (omega (arith, ap length e)) in
-    end_part c.args.reporter.history _ _ _ script (drop i script) c.loop-line.world c.connections.result.now none c.connections.ensures c.loop-line.invariant.written c.loop-line.invariant.state c.write_closing.ensures.part
+pub returns-in-Ok-clause-part : goal.returns-in-Ok-clause-part
+returns-in-Ok-clause-part g c =
+    let script = c.args.script.now in
+    let history = c.args.reporter.history in
+    let fresh = c.in-Ok.ensures ∙ ap fresh_tables c.geometry.ensures in
+    let same = ap (λ (t : Tables). report_of history (run_by table_answer t script)) fresh ∙ tables_report script c.requires.geometry c.requires.bytes history in
+    subst (WrotePart _ _) same c.run_on.ensures.part

@@ -11,6 +11,7 @@ use Rattle.sei_main.specs.declared.script.line.ScriptLine.{ScriptLine}
 use Rattle.sei_main.specs.declared.script.line.Said.TheVariants.{Nothing, Line, Wrong}
 use Rattle.sei_main.proofs.Cuts.{line_led, no_line, starts, inside, nowhere}
 use Rattle.sei_main.proofs.Fit.{Fit, line_fit, context_more, fit_more, few_more, answer_fit, answer_valid}
+use Rattle.sei_main.proofs.SaysLaws.{answer_bytes}
 use Rattle.sei_main.proofs.script.reader.read_script.Goals as goal
 use Rattle.sei_main.proofs.script.reader.read_script.Goals.{in-Nothing, in-Line+in_ok-push-in-Line}
 
@@ -71,3 +72,6 @@ returns-clause-fit c = answer_fit script_limit c.args.bytes.now c.whole.result (
 
 pub returns-clause-geometry : goal.returns-clause-geometry
 returns-clause-geometry c = answer_valid script_limit c.args.bytes.now c.whole.result (answer c)
+
+pub returns-clause-bytes : goal.returns-clause-bytes
+returns-clause-bytes c = answer_bytes script_limit c.args.bytes.now c.whole.result (λ i. omega (arith, c.type_inv.bytes i)) (answer c)

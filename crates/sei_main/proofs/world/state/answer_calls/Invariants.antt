@@ -6,7 +6,8 @@ use Rattle.sei_main.proofs.world.state.answer_calls.Given as goal
 
 abbrev pub invariant-loop-nth : goal.invariant-loop-nth
 invariant-loop-nth g l = record {
-  calls : CallsSoFar l.reporter.history (g.K.Sink.written l.fn.sink) (g.K.Sink.written l.sink) l.c l.first l.nth l.messages l.fn.server l.server (calls_at l.text l.request);
+  calls : CallsSoFar g.S.Service.answering l.reporter.history (g.K.Sink.written l.fn.sink) (g.K.Sink.written l.sink) l.c l.first l.nth l.messages l.fn.server l.server (calls_at l.text l.request);
+  limits : g.S.Service.limits l.server ≡ g.S.Service.limits l.fn.server;
   at : IsAt l.text l.request l.cursor;
   place : place_of l.cursor ≡ l.nth;
   end : l.nth-end ≡ length (calls_at l.text l.request);
