@@ -1,8 +1,10 @@
 #!/usr/bin/env python3
 """Writes a script for `replay` to standard output: sets and gets on few keys, over one connection.
 
-usage: replay_load.py REQUESTS [KEYS]            so many requests, on so many keys (8 if left out)
-       replay_load.py --bytes SIZE [KEYS]        a script of at most SIZE bytes, as long as it gets
+usage: replay_load.py REQUESTS [KEYS [SLOTS WORDS]]       so many requests, on so many keys (8 if left out)
+       replay_load.py --bytes SIZE [KEYS [SLOTS WORDS]]   a script of at most SIZE bytes, as long as it gets
+
+The bucket has so many slots (64 if left out), each with so many value words (8 if left out).
 
 Every other request is a `set` of a number, the one behind it a `get` of the same key. A `say` line
 feeds a hundred requests, and the script ends in `drain`.
@@ -10,7 +12,11 @@ feeds a hundred requests, and the script ends in `drain`.
 import sys
 
 REQUESTS_A_LINE = 100
-HEAD, TAIL = "geometry 1 64 8\nopen 0 plain\n", "drain\n"
+TAIL = "drain\n"
+
+
+def head(slots, words):
+    return f"geometry 1 {slots} {words}\nopen 0 plain\n"
 
 
 def request(number, keys):
@@ -45,12 +51,14 @@ def lines_within(size, keys):
 def main(words):
     by_size = bool(words) and words[0] == "--bytes"
     words = words[1:] if by_size else words
-    if not words or len(words) > 2 or not all(word.isdigit() and int(word) for word in words):
+    if len(words) not in (1, 2, 4) or not all(word.isdigit() and int(word) for word in words):
         sys.stderr.write(__doc__)
         return 1
-    most, keys = int(words[0]), int(words[1]) if len(words) == 2 else 8
-    sys.stdout.write(HEAD)
-    sys.stdout.writelines(lines_within(most - len(HEAD) - len(TAIL), keys) if by_size else lines_of(most, keys))
+    numbers = [int(word) for word in words]
+    most, keys = numbers[0], numbers[1] if len(numbers) > 1 else 8
+    begin = head(*numbers[2:]) if len(numbers) > 2 else head(64, 8)
+    sys.stdout.write(begin)
+    sys.stdout.writelines(lines_within(most - len(begin) - len(TAIL), keys) if by_size else lines_of(most, keys))
     sys.stdout.write(TAIL)
     return 0
 
