@@ -1,5 +1,7 @@
 use crate::replay::replay;
 use crate::run::run;
+use sei_code::{Buffer, WordList};
+use sei_log::{Change, WriteLog};
 use sei_outside::{MemorySink, MemorySource};
 use std::alloc::Global;
 use std::test::Fail;
@@ -140,5 +142,24 @@ fn histories(rt: HostRuntime) -> Result<(), Fail> {
         b"entry 0 0 0 0 -\nentry 0 1 0 0 VALUE a 0 1\\r\\nx\\r\\nEND\\r\\n\nsent 0 VALUE a 0 1\\r\\nx\\r\\nEND\\r\\n\ntook 0 1\nend ok\n";
     assert!(rt; sink.bytes() == report.as_slice());
     assert_eq!(rt; status.code(), 0);
+    Ok(())
+}
+
+#[test]
+fn lists_with_room_for_one_take_one(rt: HostRuntime) -> Result<(), Fail> {
+    let mut bytes = Buffer::new(rt.alloc(), 1)?;
+    assert!(rt; bytes.push(7));
+    assert!(rt; !bytes.push(7));
+    let mut words = WordList::new(rt.alloc(), 1)?;
+    assert!(rt; words.push(7));
+    assert!(rt; !words.push(7));
+    let change = Change {
+        address: 1,
+        was: 0,
+        becomes: 7,
+    };
+    let mut log = WriteLog::new(rt.alloc(), 1)?;
+    assert!(rt; log.push(change));
+    assert!(rt; !log.push(change));
     Ok(())
 }
