@@ -1,0 +1,48 @@
+-- How a change is undone, and which words are left when all changes of a log are.
+use Rattle.std.specs.Prelude.{◌≡◌, ℕ, zero, suc, ◌-◌, length, List, [], ◌∷◌, Option, Some, None, slice_get, slice_set}
+use Rattle.std.specs.declared.result.Result.{Result}
+use Rattle.std.specs.declared.result.Result.TheVariants.{Ok, Err}
+use Rattle.sei_fault.specs.declared.cause.AbortCause.{AbortCause}
+use Rattle.sei_fault.specs.declared.cause.AbortCause.TheVariants.{Range}
+use Rattle.sei_fault.specs.Question.Question.{Value, Written}
+use Rattle.sei_fault.specs.Tree.{Tree, honest}
+use Rattle.sei_fault.specs.Tree.Tree.{Done, Ask}
+use Rattle.sei_log.specs.declared.log.Change.{Change}
+
+-- the words behind the undoing of one change, and the cause where it aborts
+pub record Undone : Type 0 where
+  pub words : List ℕ
+  pub cause : Option AbortCause
+
+abbrev pub undo_word : List ℕ → Change → ℕ → Option ℕ → Tree Undone
+undo_word words c a None = Done (record { words = words; cause = Some (Range a) })
+undo_word words c a (Some word) =
+    Ask (Value c.was) (λ was. Ask (Written was) (λ w. Done (record { words = slice_set words a w; cause = None })))
+
+-- the address is read, and the old word, which is written there
+abbrev pub undo_tree : List ℕ → Change → Tree Undone
+undo_tree words c = Ask (Value c.address) (λ a. undo_word words c a (slice_get words a))
+
+-- undoing the change at a place of a log; where there is none, nothing is asked
+abbrev pub undo_at : List ℕ → Option Change → Tree Undone
+undo_at words None = Done (record { words = words; cause = None })
+undo_at words (Some c) = undo_tree words c
+
+abbrev pub undone_of : List ℕ → Result (Unit {0}) AbortCause → Undone
+undone_of words (Ok u) = record { words = words; cause = None }
+undone_of words (Err cause) = record { words = words; cause = Some cause }
+
+-- the changes, in their order, lead from these words to those, and each old word is the one that stood there
+abbrev pub LeadsTo : List ℕ → List Change → List ℕ → Type 0
+LeadsTo before [] after = after ≡ before
+LeadsTo before (c ∷ rest) after = (slice_get before c.address ≡ Some c.was) × LeadsTo (slice_set before c.address c.becomes) rest after
+
+-- the words behind the undoing of all these changes, the last one first
+abbrev pub undone : List Change → List ℕ → List ℕ
+undone [] words = words
+undone (c ∷ rest) words = slice_set (undone rest words) c.address c.was
+
+-- the words when, without a strike, the changes at the first n places are undone, counted from the last change
+abbrev pub restored : List Change → List ℕ → ℕ → List ℕ
+restored log words zero = words
+restored log words (suc n) = (honest (undo_at (restored log words n) (slice_get log (length log - 1 - n)))).words

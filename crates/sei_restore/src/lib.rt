@@ -1,0 +1,8 @@
+//! Undoing the changes of a pass, from the last to the first.
+#![tactic(auto)]
+
+mod restore;
+#[cfg(test)]
+mod tests;
+
+pub use restore::undo;
