@@ -11,7 +11,7 @@ use sei_words::Words;
 
 /// Undoes the change that stands `i` places before the last one of the log: the word at its
 /// address, in the words that are lent, becomes its old word again. The core is asked for the
-/// address, for the old word, and for what is written.
+/// address, and where a word stands there, for the old word and for what is written.
 ///
 /// It is `Range` exactly where no bucket is lent, or the address that the core gave is outside of
 /// it, and then nothing has changed.
@@ -27,7 +27,7 @@ pub fn undo<K: Core>(
     ensures lent { place_of (lent_left lent.exit) ≡ place_of (lent_at lent.entry) }
 {
     match log.get(log.len() - 1 - i) {
-        None => Ok(()),
+        None => unreachable!(),
         Some(change) => match lent {
             None => undo_without(change, core),
             Some(words) => undo_in(change, words, core),
