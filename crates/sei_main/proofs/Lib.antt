@@ -30,7 +30,9 @@ pub mod CallsSoFar
 pub mod Taking
 pub mod SeatBytes
 pub mod Simulated
+pub mod NumberLaws
 pub mod TableLaws
-pub mod PassLoop
+pub mod ErrandLaws
 pub mod TableCalls
+pub mod Traversing
 pub mod TableRuns

@@ -26,6 +26,7 @@ use Rattle.sei_hand.proofs.HandsLaws.{call_is_asked}
 use Rattle.sei_hand.proofs.Serving.{hands_serve}
 use Rattle.sei_main.specs.Tables.{Tables, fresh_tables, no_notes, bucket_words, setting_for, pass_end, table_answer, IsBucketOf, AreServer}
 use Rattle.sei_main.specs.State.{clock_answer}
+use Rattle.sei_main.proofs.NumberLaws.{numbered}
 use Rattle.sei_main.proofs.Simulated.{AnswerAlike}
 
 -- a call that is asked in bytes
@@ -33,24 +34,24 @@ pub record IsGood (g : Geometry) (p : Placed) : Type 0 where
   pub read : IsReadCall g p
   pub bytes : HasBytes p
 
--- the pass of such a call halts within its budget, with the answer
-pub record Passed (g : Geometry) (words : List ℕ) (b : Bucket) (now : ℕ) (p : Placed) : Type 0 where
+-- the pass of such a call halts within its budget, with the answer, whatever the number of the reply's message is
+pub record Passed (number : ℕ) (g : Geometry) (words : List ℕ) (b : Bucket) (now : ℕ) (p : Placed) : Type 0 where
   pub end : Machine
   pub steps : ℕ
-  pub ends : EndsWell (setting_for g now p) (λ ws. Stands g ws (answer (room_of g) b now p.call).0) (answer (room_of g) b now p.call).1 (beginning (rooms_of g) words no_notes) end steps
+  pub ends : EndsWell (numbered number (setting_for g now p)) (λ ws. Stands g ws (answer (room_of g) b now p.call).0) (answer (room_of g) b now p.call).1 (beginning (rooms_of g) words no_notes) end steps
 
-pub passed : (g : Geometry) (words : List ℕ) (b : Bucket) (now : ℕ) (p : Placed) → IsValid g → IsGood g p → now < 2 ^ 64 → Stands g words b → Passed g words b now p
-passed g words b now p valid good small stands =
-    by_end (hands_serve g valid (setting_for g now p)
+pub passed : (number : ℕ) (g : Geometry) (words : List ℕ) (b : Bucket) (now : ℕ) (p : Placed) → IsValid g → IsGood g p → now < 2 ^ 64 → Stands g words b → Passed number g words b now p
+passed number g words b now p valid good small stands =
+    by_end (hands_serve g valid (numbered number (setting_for g now p))
     (record { statements_are = refl; rendered_are = refl; budget_is = refl; slots_are = refl; free_are = refl })
     (parsed_of g p) (record { intact = refl; parsed = refl; lent = refl }) p.call (call_is_asked g p good.read good.bytes) now small words b stands
     no_notes (ByClock refl refl))
   where
-    by_end : Serves (setting_for g now p) (λ ws. Stands g ws (answer (room_of g) b now p.call).0) (answer (room_of g) b now p.call).1 (beginning (rooms_of g) words no_notes) → Passed g words b now p
+    by_end : Serves (numbered number (setting_for g now p)) (λ ws. Stands g ws (answer (room_of g) b now p.call).0) (answer (room_of g) b now p.call).1 (beginning (rooms_of g) words no_notes) → Passed number g words b now p
     by_end (Well end steps ends) = record { end = end; steps = steps; ends = ends }
     by_end (Unfit second m n e) = absurd (both_ways false refl second)
 
-pub pass_ends : (g : Geometry) (words : List ℕ) (b : Bucket) (now : ℕ) (p : Placed) (h : Passed g words b now p) → pass_end g words now p ≡ h.end
+pub pass_ends : (g : Geometry) (words : List ℕ) (b : Bucket) (now : ℕ) (p : Placed) (h : Passed 0 g words b now p) → pass_end g words now p ≡ h.end
 unfolding pass_end
 pass_ends g words b now p h =
     ap (λ (x : After). x.machine) (still_halted (setting_for g now p) (beginning (rooms_of g) words no_notes) h.end h.steps (space_of g).budget (omega (arith, h.ends.within)) h.ends.run.halts)
@@ -80,8 +81,8 @@ module _ (t : Tables) (s : Server) (now : ℕ) (small : now < 2 ^ 64) (p : Place
   here : IsBucketOf t.geometry s p.bucket (bucket_words t p.bucket)
   here = h.each p.bucket good.read.bucket
 
-  run : Passed t.geometry (bucket_words t p.bucket).words (bucket_at s p.bucket) now p
-  run = passed t.geometry (bucket_words t p.bucket).words (bucket_at s p.bucket) now p h.valid good small here.stands
+  run : Passed 0 t.geometry (bucket_words t p.bucket).words (bucket_at s p.bucket) now p
+  run = passed 0 t.geometry (bucket_words t p.bucket).words (bucket_at s p.bucket) now p h.valid good small here.stands
 
   ended : pass_end t.geometry (bucket_words t p.bucket).words now p ≡ run.end
   ended = pass_ends t.geometry (bucket_words t p.bucket).words (bucket_at s p.bucket) now p run

@@ -15,6 +15,7 @@ pub mod Events
 pub mod Seats
 pub mod State
 pub mod Tables
+pub mod Errands
 pub mod Asked
 pub mod Becomes
 pub mod Run

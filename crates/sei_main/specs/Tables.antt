@@ -1,8 +1,6 @@
--- A server as words: each of its buckets is a list of words, and a call is answered by one pass of a table of statements.
+-- A server as words: each of its buckets is a list of words, and what answers a call is one pass of a table of statements.
 use Rattle.std.specs.Prelude.{◌≡◌, ℕ, ◌<◌, ◌*◌, true, false, List, map, length, slice_index_or, slice_set, Some, None}
 use Rattle.std.specs.List.{range_with_len}
-use Rattle.sei_code.specs.Kept.{Kept}
-use Rattle.sei_log.specs.declared.log.Change.{Change}
 use Rattle.sei_log.specs.declared.notes.Notes.{Notes}
 use Rattle.mc_model.specs.declared.geometry.Geometry.{Geometry}
 use Rattle.mc_model.specs.Call.{Placed}
@@ -11,13 +9,13 @@ use Rattle.mc_render.specs.Rendering.{rendered}
 use Rattle.sei_words.specs.Free.{is_free}
 use Rattle.sei_words.specs.Words.{BucketWords, fresh_words}
 use Rattle.sei_stmt.specs.Machine.{Machine, Setting}
-use Rattle.sei_stmt.specs.Honest.{after, HonestRun}
+use Rattle.sei_stmt.specs.Honest.{after}
 use Rattle.sei_stmt.specs.Passes.{beginning}
-use Rattle.sei_pass.specs.State.{PassState}
 use Rattle.sei_hand.specs.Commands.{hands_table}
 use Rattle.sei_hand.specs.Requests.{parsed_of}
 use Rattle.sei_hand.specs.Spaces.{rooms_of, space_of}
 use Rattle.sei_hand.specs.Served.{Stands}
+use Rattle.sei_traverse.specs.State.{TraversalState}
 
 pub record Tables : Type 0 where
   pub geometry : Geometry
@@ -75,16 +73,8 @@ pub record AreServer (t : Tables) (s : Server) : Type 0 where
   pub buckets : length s.buckets ≡ t.geometry.buckets
   pub each : (b : ℕ) → b < t.geometry.buckets → IsBucketOf t.geometry s b (bucket_words t b)
 
--- a pass that halts within its budget
-pub record Halts (setting : Setting) (start : Machine) : Type 0 where
-  pub end : Machine
-  pub steps : ℕ
-  pub run : HonestRun setting start end steps
-  pub within : steps < setting.budget
-
--- tables stand for some server; a pass and a log beside them have their rooms
-pub record IsTableServer (t : Tables) (pass : PassState) (log : Kept Change) : Type 0 where
-  pub geometry : pass.geometry ≡ t.geometry
-  pub room : log.room ≡ (rooms_of t.geometry).log
+-- tables stand for some server, and a traversal beside them is of their geometry
+pub record IsTableServer (t : Tables) (traversal : TraversalState) : Type 0 where
+  pub geometry : traversal.geometry ≡ t.geometry
   pub server : Server
   pub are : AreServer t server

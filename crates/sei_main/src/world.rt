@@ -5,5 +5,5 @@ mod service;
 mod state;
 
 pub use connection::Connection;
-pub use service::Service;
+pub use service::{Numbers, Service};
 pub use state::World;

@@ -15,7 +15,6 @@ use Rattle.sei_stmt.specs.Machine.{Machine, Setting, Outcome, After, ends}
 use Rattle.sei_stmt.specs.Machine.Outcome.{Bad}
 use Rattle.sei_stmt.specs.Statements.{statement_tree, found_tree, step_tree}
 use Rattle.sei_stmt.proofs.HonestLaws.{on_way}
-use Rattle.sei_words.specs.Words.{BucketWords}
 use Rattle.sei_pass.specs.declared.given.Sealed.{Sealed}
 use Rattle.sei_pass.specs.declared.given.Which.{Which}
 use Rattle.sei_pass.specs.declared.given.Which.TheVariants.{Making}
@@ -64,12 +63,12 @@ made_one gives g i m s t st x e b r =
 
 -- a statement that does not ask the clock does the same whatever it would answer
 pub any_time : {S : Type 0} (gives : S → (q : Question) → Answer q → S → Type 0) (which : Which) (statements : List Stmt)
-    (parsed : List ℕ → ℕ → Option Parsed) (rendered : List ℕ → Option (List ℕ)) (input : List ℕ) (sealed : Sealed) (loan : Option BucketWords) (g : Geometry)
+    (parsed : List ℕ → ℕ → Option Parsed) (rendered : List ℕ → Option (List ℕ)) (input : List ℕ) (sealed : Sealed) (lent : Option ℕ) (g : Geometry)
     (st : Stmt) (told : Option ℕ) (time i : ℕ) (m : Machine) (s t : S) (x : After) → IsAsked which st told time →
-    Runs gives (statement_tree (setting_of which statements parsed rendered input sealed loan g time) i m st) s t x →
-    (now : ℕ) × IsAnswer told now × Runs gives (statement_tree (setting_of which statements parsed rendered input sealed loan g now) i m st) s t x
-any_time gives Making statements parsed rendered input sealed loan g (Now to) told time i m s t x a r = (time, a, r)
-any_time gives which statements parsed rendered input sealed loan g st told time i m s t x a r =
+    Runs gives (statement_tree (setting_of which statements parsed rendered input sealed lent g time) i m st) s t x →
+    (now : ℕ) × IsAnswer told now × Runs gives (statement_tree (setting_of which statements parsed rendered input sealed lent g now) i m st) s t x
+any_time gives Making statements parsed rendered input sealed lent g (Now to) told time i m s t x a r = (time, a, r)
+any_time gives which statements parsed rendered input sealed lent g st told time i m s t x a r =
     let n = some_answer told in (n.0, n.1, r)
 
 -- the test of the budget

@@ -1,7 +1,5 @@
 pub mod Acts
 pub mod State
-pub mod Loan
 pub mod Setting
 pub mod Frames
 pub mod Steps
-pub mod Exits

@@ -4,7 +4,7 @@ use Rattle.sei_code.specs.Codes.{message_code}
 use Rattle.sei_code.specs.Coded.{read_of}
 use Rattle.sei_code.specs.declared.coded.Coded.{Coded}
 use Rattle.mc_model.specs.declared.geometry.Geometry.{Geometry}
-use Rattle.sei_words.specs.Words.{BucketWords}
+use Rattle.sei_words.specs.Free.{is_free}
 use Rattle.sei_stmt.specs.declared.stmt.Stmt.{Stmt}
 use Rattle.sei_stmt.specs.Handling.{Parsed}
 use Rattle.sei_stmt.specs.Machine.{Setting}
@@ -12,7 +12,6 @@ use Rattle.sei_pass.specs.declared.given.Sealed.{Sealed}
 use Rattle.sei_pass.specs.declared.given.Which.{Which}
 use Rattle.sei_pass.specs.declared.given.Which.TheVariants.{Making, Reading}
 use Rattle.sei_pass.specs.State.{budget_of}
-use Rattle.sei_pass.specs.Loan.{bucket_of, free_of}
 
 -- the second pass reads the noted answers
 abbrev pub is_reading : Which → Bool
@@ -30,6 +29,11 @@ call_at parsed (Some nth) = parsed nth
 -- the sealed call: none where its index does not read, or the input has no such call
 abbrev pub sealed_call : (ℕ → Option Parsed) → Coded → Option Parsed
 sealed_call parsed nth = call_at parsed (read_of nth)
+
+-- which slots are free in which words at which moment; where no bucket is lent, none is
+abbrev pub free_of : Geometry → Option ℕ → List ℕ → ℕ → ℕ → Bool
+free_of g None words moment slot = false
+free_of g (Some bucket) words moment slot = is_free g words moment slot
 
 -- the parts that only some statements look at, where no statement does
 abbrev pub bare : Setting
@@ -52,30 +56,30 @@ abbrev pub timed : Which → ℕ → Setting
 timed which now = record bare { reading = is_reading which; now = now }
 
 -- what Alloc looks at
-abbrev pub slotted : Which → Geometry → Option BucketWords → Setting
-slotted which g loan = record bare { reading = is_reading which; slots = g.slots; is_free = free_of g loan }
+abbrev pub slotted : Which → Geometry → Option ℕ → Setting
+slotted which g lent = record bare { reading = is_reading which; slots = g.slots; is_free = free_of g lent }
 
 -- what Parse looks at
 abbrev pub calling : Bool → Option Parsed → Option ℕ → Setting
-calling intact parsed bucket = record bare { intact = intact; parsed = parsed; lent = bucket }
+calling intact parsed lent = record bare { intact = intact; parsed = parsed; lent = lent }
 
 -- what Render looks at
 abbrev pub rendering : ℕ → (List ℕ → Option (List ℕ)) → Setting
 rendering answer rendered = record bare { answer = answer; rendered = rendered }
 
 -- the setting of a step: the pass, the statements, calls and bytes of the hands, the input, what is
--- sealed, what is lent, the geometry, and the clock's answer
-abbrev pub setting_of : Which → List Stmt → (List ℕ → ℕ → Option Parsed) → (List ℕ → Option (List ℕ)) → List ℕ → Sealed → Option BucketWords → Geometry → ℕ → Setting
-setting_of which statements parsed rendered input sealed loan g now = record {
+-- sealed, the bucket that is lent, the geometry, and the clock's answer
+abbrev pub setting_of : Which → List Stmt → (List ℕ → ℕ → Option Parsed) → (List ℕ → Option (List ℕ)) → List ℕ → Sealed → Option ℕ → Geometry → ℕ → Setting
+setting_of which statements parsed rendered input sealed lent g now = record {
   reading = is_reading which;
   statements = statements;
   intact = is_intact sealed input;
   parsed = sealed_call (parsed input) sealed.nth;
   answer = sealed.answer;
   rendered = rendered;
-  lent = bucket_of loan;
+  lent = lent;
   slots = g.slots;
-  is_free = free_of g loan;
+  is_free = free_of g lent;
   budget = budget_of g;
   now = now;
 }

@@ -1,5 +1,5 @@
 -- What one step of a pass does.
-use Rattle.std.specs.Prelude.{◌≡◌, ℕ, suc, ◌^◌, ◌<◌, Option, Some, None, ⊤}
+use Rattle.std.specs.Prelude.{◌≡◌, ℕ, suc, ◌^◌, ◌<◌, List, Option, Some, None, ⊤}
 use Rattle.sei_code.specs.Kept.{Kept}
 use Rattle.sei_fault.specs.Counts.{Counts}
 use Rattle.sei_fault.specs.Question.{Question, Answer}
@@ -12,22 +12,20 @@ use Rattle.sei_stmt.specs.Machine.{Machine, Setting, Outcome}
 use Rattle.sei_stmt.specs.Machine.Outcome.{Next}
 use Rattle.sei_stmt.specs.Statements.{step_tree}
 use Rattle.sei_stmt.specs.Honest.{IsOnWay}
-use Rattle.sei_words.specs.Words.{BucketWords}
 use Rattle.sei_pass.specs.declared.given.Which.{Which}
 use Rattle.sei_pass.specs.declared.given.Which.TheVariants.{Making, Reading}
 use Rattle.sei_pass.specs.State.{PassState}
-use Rattle.sei_pass.specs.Loan.{words_of}
 
--- the machine of a pass, with what is lent, the log and the notes
-abbrev pub machine_of : PassState → Option BucketWords → Kept Change → Notes → Machine
-machine_of p loan log notes = record {
+-- the machine of a pass, with the words that are lent, the log and the notes
+abbrev pub machine_of : PassState → List ℕ → Kept Change → Notes → Machine
+machine_of p words log notes = record {
   registers = p.registers;
   input = p.input;
   output = p.output;
   bytes = p.bytes;
   code = p.code;
   made = p.made;
-  words = words_of loan;
+  words = words;
   log = log;
   notes = notes;
 }

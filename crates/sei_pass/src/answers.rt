@@ -6,13 +6,13 @@ ghost use Rattle.sei_log.specs.declared.log.Change.{Change};
 ghost use Rattle.sei_log.specs.declared.notes.Notes.{Notes};
 ghost use Rattle.sei_stmt.specs.Slots.{is_admissible};
 ghost use Rattle.sei_stmt.specs.Statements.{now_tree, alloc_tree, noted_now, noted_slot};
-ghost use Rattle.sei_pass.specs.Loan.{words_of, IsOf};
+ghost use Rattle.sei_words.specs.Loan.{words_of, bucket_of, IsOf};
 ghost use Rattle.sei_pass.specs.Setting.{timed, slotted};
 ghost use Rattle.sei_pass.specs.Frames.{machine_at, after_at, Does};
 
 use crate::frame::{Frame, PassStep};
 use crate::given::Which;
-use crate::lent::Lent;
+use crate::slots::Slots;
 use mc_model::Geometry;
 use sei_code::Coded;
 use sei_fault::{AbortCause, Core};
@@ -20,9 +20,9 @@ use sei_log::Notes;
 
 /// Whether the slot may answer a request for a free one: it is free, or it is the number of slots
 /// and none is free.
-fn is_admissible<L: Lent>(lent: &L, g: &Geometry, moment: u64, slot: u64) -> bool
+fn is_admissible<L: Slots>(lent: &L, g: &Geometry, moment: u64, slot: u64) -> bool
     requires { IsOf g.now (L.loan lent.now) }
-    ensures { result ≡ is_admissible (slotted Which.Reading g.now (L.loan lent.now)) (words_of (L.loan lent.now)) moment slot }
+    ensures { result ≡ is_admissible (slotted Which.Reading g.now (bucket_of (L.loan lent.now))) (words_of (L.loan lent.now)) moment slot }
 {
     if slot < g.slots {
         lent.is_free(g, slot, moment)
@@ -85,7 +85,7 @@ impl Frame {
     }
 
     /// The register gets a slot that is free at the moment that a register holds.
-    pub fn alloc<L: Lent, K: Core>(
+    pub fn alloc<L: Slots, K: Core>(
         &mut self,
         which: Which,
         to: u8,
@@ -101,7 +101,7 @@ impl Frame {
         requires geometry { IsOf g.now (L.loan lent.now) }
         requires index { index + 1 < 2 ^ 64 }
         ensures { (log : Kept Change) →
-            Runs K.gives (alloc_tree (slotted which g.now (L.loan lent.now)) index (machine_at self.old (words_of (L.loan lent.now)) log notes.old) to moment) core.old core.new
+            Runs K.gives (alloc_tree (slotted which g.now (bucket_of (L.loan lent.now))) index (machine_at self.old (words_of (L.loan lent.now)) log notes.old) to moment) core.old core.new
             (after_at self.new (words_of (L.loan lent.now)) log notes.new result) }
     {
         let t = core.value(self.registers[moment as usize]);
@@ -118,7 +118,7 @@ impl Frame {
     }
 
     /// The register gets the noted slot, where it may answer.
-    fn noted_slot<L: Lent, K: Core>(
+    fn noted_slot<L: Slots, K: Core>(
         &mut self,
         to: u8,
         moment: u64,
@@ -132,7 +132,7 @@ impl Frame {
         requires geometry { IsOf g.now (L.loan lent.now) }
         requires index { index + 1 < 2 ^ 64 }
         ensures { (log : Kept Change) (notes : Notes) →
-            Runs K.gives (noted_slot (slotted Which.Reading g.now (L.loan lent.now)) index (machine_at self.old (words_of (L.loan lent.now)) log notes) to moment note) core.old core.new
+            Runs K.gives (noted_slot (slotted Which.Reading g.now (bucket_of (L.loan lent.now))) index (machine_at self.old (words_of (L.loan lent.now)) log notes) to moment note) core.old core.new
             (after_at self.new (words_of (L.loan lent.now)) log notes result) }
     {
         let Some(note) = note else {

@@ -6,11 +6,11 @@ mod acts;
 mod answers;
 mod frame;
 mod given;
-mod lent;
 mod memory;
 mod output;
 mod pass;
 mod registers;
+mod slots;
 mod step;
 #[cfg(test)]
 mod tests;
@@ -18,3 +18,4 @@ mod tests;
 pub use frame::PassStep;
 pub use given::{Sealed, Which};
 pub use pass::Pass;
+pub use slots::Slots;

@@ -5,13 +5,13 @@ ghost use Rattle.sei_fault.specs.Tree.{Runs};
 ghost use Rattle.sei_log.specs.declared.log.Change.{Change};
 ghost use Rattle.sei_log.specs.declared.notes.Notes.{Notes};
 ghost use Rattle.sei_stmt.specs.Statements.{load_tree, store_tree};
-ghost use Rattle.sei_pass.specs.Loan.{words_of, place_of};
+ghost use Rattle.sei_words.specs.Loan.{words_of, place_of};
 ghost use Rattle.sei_pass.specs.Frames.{machine_at, after_at};
 
 use crate::frame::{Frame, PassStep};
-use crate::lent::Lent;
 use sei_fault::{AbortCause, Core};
 use sei_log::{Change, WriteLog};
+use sei_words::Lent;
 
 impl Frame {
     /// The register gets a word of the bucket.

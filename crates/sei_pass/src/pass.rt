@@ -1,26 +1,26 @@
 //! A pass.
-ghost use Rattle.std.specs.Prelude.{◌≡◌, ℕ, ◌+◌, ◌≤◌, IfOk, length, Option, slice_get};
+ghost use Rattle.std.specs.Prelude.{◌≡◌, ℕ, ◌+◌, ◌≤◌, ◌<◌, ◌^◌, IfOk, IfSome, length, Option, slice_get};
 ghost use Rattle.std.specs.Option.{option_map};
 ghost use Rattle.mc_model.specs.Server.{IsValid};
 ghost use Rattle.sei_stmt.specs.Handling.{parsed_words};
 ghost use Rattle.sei_pass.specs.Acts.{act_of};
 ghost use Rattle.sei_pass.specs.State.{IsPass, new_pass};
-ghost use Rattle.sei_pass.specs.Loan.{place_of, IsOf};
-ghost use Rattle.sei_pass.specs.Exits.{lent_at, lent_left};
+ghost use Rattle.sei_words.specs.Loan.{words_of, bucket_of, place_of, IsOf};
+ghost use Rattle.sei_words.specs.Exits.{lent_at, lent_left};
 ghost use Rattle.sei_pass.specs.Setting.{sealed_call, setting_of};
 ghost use Rattle.sei_pass.specs.Frames.{outcome_of};
 ghost use Rattle.sei_pass.specs.Steps.{machine_of, Stepped};
 
 use crate::frame::{Frame, PassStep};
 use crate::given::{Sealed, Which};
-use crate::lent::{Lent, NoBucket};
+use crate::slots::Slots;
 use mc_model::Geometry;
 use sei_code::{Memory, WordList};
 use sei_fault::{Act, Core};
 use sei_log::{Notes, WriteLog};
 use sei_outside::Clock;
 use sei_stmt::Handler;
-use sei_words::Words;
+use sei_words::{NoBucket, Words};
 use std::alloc::Global;
 use std::marker::Model;
 
@@ -99,7 +99,8 @@ impl Pass {
 
     /// What the statement at `index` of the table does, or `None` where there is no such statement.
     pub fn act<H: Handler>(&self, hands: &H, index: u64) -> Option<Act>
-        ensures { result ≡ option_map (act_of self.now.registers) (slice_get (H.statements hands.now) index) }
+        ensures act { result ≡ option_map (act_of self.now.registers) (slice_get (H.statements hands.now) index) }
+        ensures below { IfSome result (λ _. index < 2 ^ 63) }
     {
         match hands.table().get(index) {
             None => None,
@@ -130,13 +131,14 @@ impl Pass {
         // What is lent is of the pass's geometry.
         requires lent { IsOf self.old.geometry (lent_at lent) }
         ensures stepped { Stepped K.gives K.counts (C.told clock.now)
-            (setting_of which (H.statements hands.now) (H.parsed hands.now) (H.rendered hands.now) input.now sealed.now (lent_at lent.entry) self.old.geometry)
-            index (machine_of self.old (lent_at lent.entry) log.old notes.old)
-            (machine_of self.new (lent_left lent.exit) log.new notes.new) (outcome_of result) core.old core.new }
+            (setting_of which (H.statements hands.now) (H.parsed hands.now) (H.rendered hands.now) input.now sealed.now (bucket_of (lent_at lent.entry)) self.old.geometry)
+            index (machine_of self.old (words_of (lent_at lent.entry)) log.old notes.old)
+            (machine_of self.new (words_of (lent_left lent.exit)) log.new notes.new) (outcome_of result) core.old core.new }
         ensures lent { place_of (lent_left lent.exit) ≡ place_of (lent_at lent.entry) }
         ensures geometry { self.new.geometry ≡ self.old.geometry }
         ensures pass { IsPass self.new }
         ensures log { log.new.room ≡ log.old.room }
+        ensures log_fits { length log.old.items ≤ log.old.room → length log.new.items ≤ log.new.room }
     {
         match lent {
             None => self.step_on(
@@ -157,8 +159,8 @@ impl Pass {
         }
     }
 
-    /// The step, with what is lent.
-    fn step_on<H: Handler, L: Lent, K: Core, C: Clock>(
+    /// The same step, on what is lent.
+    pub fn step_on<H: Handler, L: Slots, K: Core, C: Clock>(
         &mut self,
         which: Which,
         hands: &H,
@@ -174,13 +176,14 @@ impl Pass {
         requires room { length (parsed_words (sealed_call (H.parsed hands.now input.now) sealed.now.nth)) ≤ self.old.input.room }
         requires lent { IsOf self.old.geometry (L.loan lent.old) }
         ensures stepped { Stepped K.gives K.counts (C.told clock.now)
-            (setting_of which (H.statements hands.now) (H.parsed hands.now) (H.rendered hands.now) input.now sealed.now (L.loan lent.old) self.old.geometry)
-            index (machine_of self.old (L.loan lent.old) log.old notes.old)
-            (machine_of self.new (L.loan lent.new) log.new notes.new) (outcome_of result) core.old core.new }
+            (setting_of which (H.statements hands.now) (H.parsed hands.now) (H.rendered hands.now) input.now sealed.now (bucket_of (L.loan lent.old)) self.old.geometry)
+            index (machine_of self.old (words_of (L.loan lent.old)) log.old notes.old)
+            (machine_of self.new (words_of (L.loan lent.new)) log.new notes.new) (outcome_of result) core.old core.new }
         ensures lent { place_of (L.loan lent.new) ≡ place_of (L.loan lent.old) }
         ensures geometry { self.new.geometry ≡ self.old.geometry }
         ensures pass { IsPass self.new }
         ensures log { log.new.room ≡ log.old.room }
+        ensures log_fits { length log.old.items ≤ log.old.room → length log.new.items ≤ log.new.room }
     {
         self.frame.step(
             which,

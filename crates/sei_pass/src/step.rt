@@ -5,7 +5,7 @@ ghost use Rattle.sei_fault.specs.Tree.{Runs};
 ghost use Rattle.sei_stmt.specs.Handling.{parsed_words};
 ghost use Rattle.sei_stmt.specs.Statements.{statement_tree};
 ghost use Rattle.sei_stmt.specs.Table.{HasRegisters, JumpsInside, HasNext};
-ghost use Rattle.sei_pass.specs.Loan.{words_of, place_of, IsOf};
+ghost use Rattle.sei_words.specs.Loan.{words_of, bucket_of, place_of, IsOf};
 ghost use Rattle.sei_pass.specs.Setting.{sealed_call, setting_of};
 ghost use Rattle.sei_pass.specs.Frames.{machine_at, after_at, outcome_of, KeepsRooms};
 ghost use Rattle.sei_pass.specs.State.{budget_of};
@@ -13,7 +13,7 @@ ghost use Rattle.sei_pass.specs.Steps.{IsAsked, Stepped};
 
 use crate::frame::{Frame, PassStep};
 use crate::given::{Sealed, Which};
-use crate::lent::Lent;
+use crate::slots::Slots;
 use mc_model::Geometry;
 use sei_code::WordList;
 use sei_fault::{AbortCause, Core};
@@ -45,7 +45,7 @@ fn budget(g: &Geometry) -> u64
 
 impl Frame {
     /// Makes the statement at `index`, where there is one and the budget is not spent.
-    pub fn step<H: Handler, L: Lent, K: Core, C: Clock>(
+    pub fn step<H: Handler, L: Slots, K: Core, C: Clock>(
         &mut self,
         which: Which,
         hands: &H,
@@ -64,16 +64,18 @@ impl Frame {
         requires geometry { IsOf g.now (L.loan lent.old) }
         requires room { length (parsed_words (sealed_call (H.parsed hands.now input.now) sealed.now.nth)) ≤ self.old.input.room }
         requires fits { length self.old.output.items ≤ self.old.output.room }
+        requires bytes_fit { length self.old.bytes.items ≤ self.old.bytes.room }
         requires scratch { scratch.old.room ≡ self.old.output.room }
         requires made { self.old.made ≤ budget_of g.now }
         ensures stepped { Stepped K.gives K.counts (C.told clock.now)
-            (setting_of which (H.statements hands.now) (H.parsed hands.now) (H.rendered hands.now) input.now sealed.now (L.loan lent.old) g.now)
+            (setting_of which (H.statements hands.now) (H.parsed hands.now) (H.rendered hands.now) input.now sealed.now (bucket_of (L.loan lent.old)) g.now)
             index (machine_at self.old (words_of (L.loan lent.old)) log.old notes.old)
             (machine_at self.new (words_of (L.loan lent.new)) log.new notes.new) (outcome_of result) core.old core.new }
         ensures lent { place_of (L.loan lent.new) ≡ place_of (L.loan lent.old) }
         ensures rooms { KeepsRooms self.old self.new }
         ensures made { self.new.made ≤ budget_of g.now }
         ensures log { log.new.room ≡ log.old.room }
+        ensures log_fits { length log.old.items ≤ log.old.room → length log.new.items ≤ log.new.room }
         ensures scratch { scratch.new.room ≡ scratch.old.room }
     {
         match hands.table().get(index) {
@@ -94,7 +96,7 @@ impl Frame {
     }
 
     /// Makes one statement.
-    fn make<H: Handler, L: Lent, K: Core>(
+    fn make<H: Handler, L: Slots, K: Core>(
         &mut self,
         statement: Stmt,
         which: Which,
@@ -117,7 +119,7 @@ impl Frame {
         requires geometry { IsOf g.now (L.loan lent.old) }
         requires room { length (parsed_words (sealed_call (H.parsed hands.now input.now) sealed.now.nth)) ≤ self.old.input.room }
         requires scratch { length self.old.output.items ≤ scratch.old.room }
-        ensures tree { Runs K.gives (statement_tree (setting_of which (H.statements hands.now) (H.parsed hands.now) (H.rendered hands.now) input.now sealed.now (L.loan lent.old) g.now time)
+        ensures tree { Runs K.gives (statement_tree (setting_of which (H.statements hands.now) (H.parsed hands.now) (H.rendered hands.now) input.now sealed.now (bucket_of (L.loan lent.old)) g.now time)
             index (machine_at self.old (words_of (L.loan lent.old)) log.old notes.old) statement)
             core.old core.new (after_at self.new (words_of (L.loan lent.new)) log.new notes.new result) }
         ensures lent { place_of (L.loan lent.new) ≡ place_of (L.loan lent.old) }

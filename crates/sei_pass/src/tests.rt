@@ -1,6 +1,6 @@
 //! Passes over small tables, with the plain core and a clock that is set.
-ghost use Rattle.sei_pass.specs.Loan.{IsOf};
-ghost use Rattle.sei_pass.specs.Exits.{lent_at};
+ghost use Rattle.sei_words.specs.Loan.{IsOf};
+ghost use Rattle.sei_words.specs.Exits.{lent_at};
 
 use super::*;
 use mc_model::Geometry;

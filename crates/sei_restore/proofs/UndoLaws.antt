@@ -69,7 +69,7 @@ kept_length : (log : List Change) (words : List ℕ) → length (undone log word
 kept_length [] words = refl
 kept_length (c ∷ rest) words = length-set (undone rest words) c.address c.was ∙ kept_length rest words
 
-same_length : (before : List ℕ) (log : List Change) (after : List ℕ) → LeadsTo before log after → length after ≡ length before
+pub same_length : (before : List ℕ) (log : List Change) (after : List ℕ) → LeadsTo before log after → length after ≡ length before
 same_length before log after leads = sym (kept_length log after) ∙ ap (λ (l : List ℕ). length l) (undoes_all before log after leads)
 
 undo_well : (words : List ℕ) (c : Change) → c.address < length words → (honest (undo_tree words c)).cause ≡ None

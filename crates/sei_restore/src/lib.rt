@@ -5,4 +5,4 @@ mod restore;
 #[cfg(test)]
 mod tests;
 
-pub use restore::undo;
+pub use restore::{undo, undo_on};

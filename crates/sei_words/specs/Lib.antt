@@ -4,3 +4,5 @@ pub mod Free
 pub mod Stored
 pub mod Holds
 pub mod Stands
+pub mod Loan
+pub mod Exits

@@ -2,8 +2,10 @@
 //! slots are free, and for which bucket of the model such words stand.
 #![tactic(auto)]
 
+mod lent;
 #[cfg(test)]
 mod tests;
 mod words;
 
+pub use lent::{Lent, NoBucket};
 pub use words::Words;

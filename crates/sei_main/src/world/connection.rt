@@ -5,12 +5,14 @@ use sei_code::Memory;
 use std::alloc::Global;
 use std::marker::Model;
 
-/// A connection: the bytes that were fed to it, how many of them requests took, and how many calls
-/// were answered and messages sent.
+/// A connection: the bytes that were fed to it, how many of them requests took, how many requests that
+/// were, and how many calls were answered and messages sent.
 #[derive(Drop)]
 pub struct Connection {
     fed: Vec<u8>,
     consumed: usize,
+    /// How many requests were taken. The count stays at its last value once it stands there.
+    requests: u64,
     entered: u64,
     sent: u64,
     closed: bool,
@@ -34,6 +36,7 @@ impl Connection {
         Connection {
             fed: Vec::new(alloc),
             consumed: 0,
+            requests: 0,
             entered: 0,
             sent: 0,
             closed: false,
@@ -68,6 +71,11 @@ impl Connection {
         self.entered
     }
 
+    /// How many of its requests were answered, which is the number of the next one.
+    pub fn requests(&self) -> u64 {
+        self.requests
+    }
+
     /// How many messages were sent to it.
     pub fn sent(&self) -> u64
         ensures { result ≡ self.now.sent }
@@ -85,6 +93,7 @@ impl Connection {
         let all = self.fed.len();
         prove!(self.consumed + size <= all);
         self.consumed += size;
+        self.requests = self.requests.saturating_add(1);
         self.entered += calls;
         self.sent += messages;
         self.closed = closes;

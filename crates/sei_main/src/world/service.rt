@@ -9,6 +9,15 @@ ghost use Rattle.sei_main.specs.Asked.{IsCallAt};
 use mc_model::{CallSpan, PlainServer};
 use sei_code::Memory;
 
+/// Which messages of its connection a call has to do with.
+#[derive(Clone, Copy, Debug, PartialEq, Eq)]
+pub struct Numbers {
+    /// The number of the request, from 0.
+    pub request: u64,
+    /// The number of the message that the reply is, from 0: how many were sent before.
+    pub reply: u64,
+}
+
 /// A server of calls: what it answers is a function of its state, the time and the call.
 pub trait Service {
     /// The server behind a call at a time, and the reply.
@@ -18,14 +27,15 @@ pub trait Service {
     ghost limits: { Self → Limits };
 
     /// Answers `call`, whose key and block are spans of `text`: call number `nth`, from 0, of the
-    /// request that `text` spells. `now` is in seconds since the start of 1970. After want of memory
-    /// nothing is said of the server but its limits.
+    /// request that `text` spells. `now` is in seconds since the start of 1970. What is answered does not
+    /// depend on `numbers`. After want of memory nothing is said of the server but its limits.
     fn answer(
         &mut self,
         now: u64,
         text: &[u8],
         nth: u64,
         call: &CallSpan,
+        numbers: Numbers,
     ) -> Result<Vec<u8>, Memory>
         requires span { IsSpanOf text.now call.now }
         requires hash { HasOwnHash text.now call.now }
@@ -46,6 +56,7 @@ impl Service for PlainServer {
         text: &[u8],
         _nth: u64,
         call: &CallSpan,
+        _numbers: Numbers,
     ) -> Result<Vec<u8>, Memory> {
         PlainServer::answer(self, now, text, call)
     }

@@ -15,7 +15,7 @@ ghost use Rattle.sei_main.specs.Becomes.{Becomes, IsNext, IsNextOf, IsKnown, ans
 ghost use Rattle.sei_main.specs.Report.{events_text, line_text_by};
 
 use super::connection::Connection;
-use super::service::Service;
+use super::service::{Numbers, Service};
 use crate::report::{Reporter, Stop};
 use crate::script::ScriptLine;
 use mc_model::{CallSpan, Geometry};
@@ -59,6 +59,7 @@ fn answer_call<S: Service, K: Sink>(
     text: &[u8],
     nth: u64,
     call: &CallSpan,
+    numbers: Numbers,
     sink: &mut K,
 ) -> Result<bool, Stop>
     requires span { IsSpanOf text.now call.now }
@@ -72,7 +73,7 @@ fn answer_call<S: Service, K: Sink>(
     ensures fault { result ≡ Err Stop.WriteFault → Rose (K.faults sink.old) (K.faults sink.new) }
     ensures later { K.faults sink.old ≤ K.faults sink.new }
 {
-    match server.answer(CLOCK, text, nth, call) {
+    match server.answer(CLOCK, text, nth, call, numbers) {
         Err(_) => Err(Stop::Memory),
         Ok(reply) => {
             reporter.write_entry(sink, c, number, call.bucket, CLOCK, reply.as_slice())?;
@@ -81,7 +82,8 @@ fn answer_call<S: Service, K: Sink>(
     }
 }
 
-/// Answers all calls of a request, numbered from `first` on; how many messages were sent.
+/// Answers all calls of a request, numbered from `first` on; how many messages were sent. `numbers` are
+/// those of the request and of its first reply.
 fn answer_calls<S: Service, K: Sink>(
     server: &mut S,
     reporter: Reporter,
@@ -89,6 +91,7 @@ fn answer_calls<S: Service, K: Sink>(
     first: u64,
     text: &[u8],
     request: &Request,
+    numbers: Numbers,
     sink: &mut K,
 ) -> Result<u64, Stop>
     requires reading { IsReading (S.limits server.old) text.now request.now }
@@ -107,7 +110,21 @@ fn answer_calls<S: Service, K: Sink>(
     let mut cursor = request.cursor(text);
     for nth in 0..request.calls() {
         if let Some(call) = cursor.next(request, text) {
-            let sent = answer_call(server, reporter, c, first + nth, text, nth, &call, sink)?;
+            let here = Numbers {
+                request: numbers.request,
+                reply: numbers.reply.saturating_add(messages),
+            };
+            let sent = answer_call(
+                server,
+                reporter,
+                c,
+                first + nth,
+                text,
+                nth,
+                &call,
+                here,
+                sink,
+            )?;
             messages += sent as u64;
         }
     }
@@ -136,7 +153,11 @@ fn take_request<S: Service, K: Sink>(
 {
     let text = &connection.waiting()[..size];
     let first = connection.entered();
-    let messages = answer_calls(server, reporter, c, first, text, request, sink)?;
+    let numbers = Numbers {
+        request: connection.requests(),
+        reply: connection.sent(),
+    };
+    let messages = answer_calls(server, reporter, c, first, text, request, numbers, sink)?;
     let closes = request.ends_connection();
     reporter.write_closed(sink, c, closes)?;
     connection.took(size, request.calls(), messages, closes);

@@ -1,4 +1,4 @@
-use Rattle.std.proofs.Common.{ap, sym, ◌∙◌, subst}
+use Rattle.std.proofs.Common.{sym, subst}
 use Rattle.mc_model.specs.Server.{empty_server}
 use Rattle.sei_words.specs.Words.{BucketWords}
 use Rattle.std.specs.Prelude.{List}
@@ -11,8 +11,7 @@ invariant_of-result c =
     let g = c.args.geometry in (
       c.in-Ok.ensures.made,
       record {
-        geometry = ap (λ p. p.geometry) c.in_ok-new.ensures;
-        room = ap (λ l. l.room) c.in_ok-new-2.ensures ∙ c.log_room.ensures;
+        geometry = c.in_ok-new.ensures;
         server = empty_server g;
         are = subst (λ (bs : List BucketWords). AreServer (record { geometry = g; buckets = bs }) (empty_server g)) (sym c.in_ok-fresh_buckets.ensures) (fresh_are_server g c.requires).are;
       },

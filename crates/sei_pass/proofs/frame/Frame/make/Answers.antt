@@ -1,4 +1,4 @@
-use Rattle.sei_pass.specs.Loan.{words_of}
+use Rattle.sei_words.specs.Loan.{words_of}
 use Rattle.sei_pass.proofs.frame.Frame.make.Goals as goal
 
 pub returns-in-Alloc-clause-tree : goal.returns-in-Alloc-clause-tree

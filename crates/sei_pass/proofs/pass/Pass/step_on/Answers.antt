@@ -11,6 +11,7 @@ invariant_of-self g c = record {
     bytes = c.step.ensures.rooms.bytes ∙ c.self.invariant.pass.bytes;
     made = c.step.ensures.made;
     fits = c.step.ensures.rooms.fits;
+    bytes_fit = c.step.ensures.rooms.bytes_fit;
   };
   room = c.step.ensures.scratch ∙ c.self.invariant.room;
 }
@@ -24,4 +25,5 @@ returns-clause-pass g c = record {
   bytes = c.step.ensures.rooms.bytes ∙ c.self.invariant.pass.bytes;
   made = c.step.ensures.made;
   fits = c.step.ensures.rooms.fits;
+  bytes_fit = c.step.ensures.rooms.bytes_fit;
 }

@@ -1,0 +1,29 @@
+-- A phase that is next to be closed is closed.
+use Rattle.std.proofs.Common.{◌≡◌, ℕ, Bool, List, ap}
+use Rattle.std.specs.Prelude.{if◌then◌else◌}
+use Rattle.sei_fault.specs.declared.place.Phase.{Phase}
+use Rattle.sei_fault.specs.declared.place.Place.{Place}
+use Rattle.sei_fault.specs.Phases.{phase_number}
+use Rattle.sei_fault.specs.Tree.{Tree, honest}
+use Rattle.sei_gate.specs.Closing.{risen}
+use Rattle.sei_traverse.specs.declared.turned.Want.TheVariants.{Nothing}
+use Rattle.sei_traverse.specs.declared.walk.Ending.TheVariants.{Leads}
+use Rattle.sei_traverse.specs.declared.walk.Walk.{Walk}
+use Rattle.sei_traverse.specs.Acts.{Acted, acted, ends, closed_to, closing_then, closes}
+use Rattle.sei_traverse.proofs.Branches.{same}
+
+-- the walk behind an act that closed a phase
+abbrev pub closed_walk : Walk → Walk
+closed_walk w = record w { gate = record { done = risen w.gate.done } }
+
+-- and where nothing is wanted
+abbrev pub closed : Walk → Walk
+closed w = record w { gate = record { done = risen w.gate.done }; want = Nothing }
+
+pub closes_then : (phase : Phase) (w : Walk) (words : List ℕ) (on : Walk → Tree Acted) → w.gate.done ≡ phase_number phase →
+    honest (closing_then phase w words on) ≡ honest (on (closed_walk w))
+closes_then phase w words on h =
+    ap (λ (b : Bool). honest (closed_to w words on (b, if b then risen w.gate.done else w.gate.done))) (same w.gate.done (phase_number phase) h)
+
+pub closes_in_turn : (phase : Phase) (w : Walk) (words : List ℕ) (to : Place) → w.gate.done ≡ phase_number phase → honest (closes phase w words Nothing to) ≡ acted (closed w) words (Leads to)
+closes_in_turn phase w words to h = closes_then phase w words (λ v. ends (record v { want = Nothing }) words (Leads to)) h

@@ -1,0 +1,104 @@
+-- A whole step without a strike, from what its act does.
+use Rattle.std.proofs.Common.{◌≡◌, ℕ, suc, ◌+◌, ◌-◌, ◌^◌, ◌<◌, Bool, false, List, Option, Some, refl, ap, ◌∙◌, arith}
+use Rattle.std.specs.Prelude.{◌==◌, ◌&&◌, if◌then◌else◌}
+use Rattle.sei_fault.specs.Counts.{Counts}
+use Rattle.sei_fault.specs.declared.place.Act.{Act}
+use Rattle.sei_fault.specs.declared.place.Phase.{Phase}
+use Rattle.sei_fault.specs.declared.place.Phase.TheVariants.{Guard, Take, First, Restore, Second, Compare, Verify, Enter, Give, Send, Done as Last}
+use Rattle.sei_fault.specs.declared.place.Place.{Place}
+use Rattle.sei_fault.specs.Phases.{phase_number}
+use Rattle.sei_fault.specs.Strikes.{Split}
+use Rattle.sei_fault.specs.Strikes.Split.{Clean as NoStrike, Once as OneFell, More}
+use Rattle.sei_fault.specs.Tree.{Runs, any_core, honest, questions}
+use Rattle.sei_fault.proofs.Bound.{honest_bound, questions_bound}
+use Rattle.sei_fault.proofs.Strikes.{split}
+use Rattle.sei_traverse.specs.declared.turned.State.TheVariants.{Went, Finished, Refused}
+use Rattle.sei_traverse.specs.declared.turned.Want.TheVariants.{Nothing}
+use Rattle.sei_traverse.specs.declared.walk.Ending.TheVariants.{Leads, Refuses}
+use Rattle.sei_traverse.specs.declared.walk.Walk.{Walk}
+use Rattle.sei_traverse.specs.Acts.{Acted, acted, at}
+use Rattle.sei_traverse.specs.Errand.{Errand}
+use Rattle.sei_traverse.specs.Service.{Given}
+use Rattle.sei_traverse.specs.Step.{act_tree, site_of, Turn, turn, is_end, arrival, goes_on, turn_at, turn_tree}
+use Rattle.sei_traverse.specs.Unstruck.{CleanIn}
+use Rattle.sei_traverse.proofs.EdgeActs.{Finishes}
+use Rattle.sei_traverse.proofs.GoesOn.{GoesOn}
+
+no_end : (e : Errand) (w : Walk) (lent : Option (List ℕ)) (steps asked : ℕ) (phase : Phase) → CleanIn e w lent steps asked phase → (phase_number phase == 10 && w.place.index == 1) ≡ false
+no_end e w lent steps asked Guard i = refl
+no_end e w lent steps asked Take i = refl
+no_end e w lent steps asked First i = refl
+no_end e w lent steps asked Restore i = refl
+no_end e w lent steps asked Second i = refl
+no_end e w lent steps asked Compare i = refl
+no_end e w lent steps asked Verify i = refl
+no_end e w lent steps asked Enter i = refl
+no_end e w lent steps asked Give i = refl
+no_end e w lent steps asked Send i = refl
+no_end e w lent steps asked Last i = ap (λ (index : ℕ). phase_number Last == 10 && index == 1) i.index
+
+-- a traversal that is clean stands at no end
+pub clean_no_end : (e : Errand) (w : Walk) (lent : Option (List ℕ)) (steps asked : ℕ) → CleanIn e w lent steps asked w.place.phase → is_end w.place ≡ false
+clean_no_end e w lent steps asked i = no_end e w lent steps asked w.place.phase i
+
+arrives : (phase : Phase) (p : Place) (done : ℕ) → is_end p ≡ false → arrival phase p done ≡ Went
+arrives phase p done h = ap (λ (b : Bool). if b then arrival phase (at Last 1) done else Went) h
+
+arrives_last : (phase : Phase) (done : ℕ) → done ≡ 11 → arrival phase (at Last 1) done ≡ Finished
+arrives_last phase done h = ap (arrival phase (at Last 1)) h
+
+-- where nothing struck, a run is the honest one
+unstruck : {R : Type 0} (x clean : R) (once : Type 0) (n : ℕ) (c d : Counts) → d.struck ≡ c.struck → Split x clean once n c d → (x ≡ clean) × (d.asked < 2 ^ 128 - 1 → d.asked ≡ c.asked + n)
+unstruck x clean once n c d none (NoStrike e s a) = (e, a)
+unstruck x clean once n c d none (OneFell f s) = absurd (omega (arith, none, s))
+unstruck x clean once n c d none (More s) = absurd (omega (arith, none, s))
+
+-- a step wants nothing before its act
+abbrev pub unwanting : Walk → Walk
+unwanting w = record w { want = Nothing }
+
+module _ (g : Given) (now later : ℕ) (w : Walk) (words : List ℕ) where
+  -- the act is made once
+  honest_turn : (act : Act) (x : Acted) → site_of g.service (unwanting w) ≡ Some act → honest (act_tree g now (unwanting w) words) ≡ x → honest (turn_tree g now later w words) ≡ honest (goes_on x)
+  honest_turn act x site acts =
+      ap (λ (o : Option Act). honest (turn_at g now later (unwanting w) words o)) site
+      ∙ honest_bound (act_tree g now (unwanting w) words) goes_on
+      ∙ ap (λ (y : Acted). honest (goes_on y)) acts
+
+  turn_questions : (act : Act) (x : Acted) → site_of g.service (unwanting w) ≡ Some act → honest (act_tree g now (unwanting w) words) ≡ x →
+      questions (turn_tree g now later w words) ≡ 1 + (questions (act_tree g now (unwanting w) words) + questions (goes_on x))
+  turn_questions act x site acts =
+      ap (λ (o : Option Act). questions (turn_at g now later (unwanting w) words o)) site
+      ∙ ap (λ (n : ℕ). 1 + n) (questions_bound (act_tree g now (unwanting w) words) goes_on ∙ ap (λ (y : Acted). questions (act_tree g now (unwanting w) words) + questions (goes_on y)) acts)
+
+  -- where the act leads to a place, the step goes there
+  pub leads_turn : (act : Act) (u : Walk) (left : List ℕ) (to : Place) → site_of g.service (unwanting w) ≡ Some act → honest (act_tree g now (unwanting w) words) ≡ acted u left (Leads to) →
+      (honest (turn_tree g now later w words) ≡ turn (record u { place = to }) left (arrival u.place.phase to u.gate.done)) × (questions (act_tree g now (unwanting w) words) + 2 ≡ questions (turn_tree g now later w words))
+  leads_turn act u left to site acts =
+      (honest_turn act (acted u left (Leads to)) site acts, omega (arith, turn_questions act (acted u left (Leads to)) site acts))
+
+  -- where the act refuses, so does the step
+  pub refuses_turn : (act : Act) (u : Walk) (left : List ℕ) → site_of g.service (unwanting w) ≡ Some act → honest (act_tree g now (unwanting w) words) ≡ acted u left Refuses →
+      (honest (turn_tree g now later w words) ≡ turn u left Refused) × (questions (act_tree g now (unwanting w) words) + 1 ≡ questions (turn_tree g now later w words))
+  refuses_turn act u left site acts =
+      (honest_turn act (acted u left Refuses) site acts, omega (arith, turn_questions act (acted u left Refuses) site acts))
+
+  -- a step whose act goes on leads to its place
+  pub clean_turn : (e : Errand) (after : List ℕ → Option (List ℕ)) (steps asked : ℕ) (a : GoesOn e g now w.place.phase (unwanting w) words after steps asked) →
+      honest (turn_tree g now later w words) ≡ turn (record a.walk { place = a.to }) a.left Went
+  clean_turn e after steps asked a =
+      let there : is_end a.to ≡ false = clean_no_end e (record a.walk { place = a.to }) (after a.left) (suc steps) (asked + a.more) a.clean in
+      (leads_turn a.act a.walk a.left a.to a.site a.acts).0
+      ∙ ap (turn (record a.walk { place = a.to }) a.left) (arrives a.walk.place.phase a.to a.walk.gate.done there)
+
+  -- a step whose act finishes leads to the end
+  pub finish_turn : (e : Errand) (steps asked : ℕ) (a : Finishes e g now w.place.phase (unwanting w) words steps asked) →
+      honest (turn_tree g now later w words) ≡ turn (record a.walk { place = at Last 1 }) a.left Finished
+  finish_turn e steps asked a =
+      (leads_turn a.act a.walk a.left (at Last 1) a.site a.acts).0
+      ∙ ap (turn (record a.walk { place = at Last 1 }) a.left) (arrives_last a.walk.place.phase a.walk.gate.done a.finished.gate)
+
+  -- a run of a step in which nothing struck is the honest one, and its questions were counted
+  pub clean_run : (c d : Counts) (x : Turn) → Runs any_core (turn_tree g now later w words) c d x → d.struck ≡ c.struck →
+      (x ≡ honest (turn_tree g now later w words)) × (d.asked < 2 ^ 128 - 1 → d.asked ≡ c.asked + questions (turn_tree g now later w words))
+  clean_run c d x r none = unstruck x _ _ _ c d none (split (turn_tree g now later w words) c d x r)

@@ -1,0 +1,17 @@
+pub mod PassLaws
+pub mod NoteLaws
+pub mod TimeLaws
+pub mod LogLaws
+pub mod Branches
+pub mod Closes
+pub mod GoesOn
+pub mod ActLaws
+pub mod TurnLaws
+pub mod EdgeActs
+pub mod HonestTurn
+pub mod PassOnward
+pub mod MiddleActs
+pub mod Onward
+pub mod Settled
+pub mod WayLaws
+pub mod SoundLaws

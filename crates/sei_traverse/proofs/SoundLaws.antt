@@ -1,0 +1,42 @@
+-- What a sound handler is asked is an errand.
+use Rattle.std.proofs.Common.{◌≡◌, ℕ, ◌^◌, ◌<◌, List, Option, Some, false, refl, sym, ap, ◌∙◌}
+use Rattle.std.proofs.lemmas.Bool.{both_ways}
+use Rattle.sei_code.specs.Codes.{message_code}
+use Rattle.sei_stmt.specs.Machine.{Machine}
+use Rattle.sei_stmt.specs.Passes.IsTold.{ByClock}
+use Rattle.sei_stmt.specs.Sound.{EndsWell, Serves}
+use Rattle.sei_stmt.specs.Sound.Serves.{Well, Unfit}
+use Rattle.sei_pass.specs.Setting.{call_at}
+use Rattle.sei_traverse.specs.Comes.{at_time, EndsAt}
+use Rattle.sei_traverse.specs.Errand.{Errand, IsErrand, first_setting, first_start, no_notes, given_in}
+use Rattle.sei_traverse.specs.Service.{call_of}
+use Rattle.sei_traverse.specs.Sound.{IsAsked}
+
+module _ {B : Type 0} (Stands : List ℕ → B → Type 0) (answer : List ℕ → ℕ → B → ℕ → B × List ℕ) (e : Errand) (h : IsAsked Stands answer e) where
+  called : call_of (given_in e) e.sealed ≡ Some e.call
+  called = ap (call_at (e.service.parsed e.input)) h.reads ∙ h.called
+
+  ends_at : (now : ℕ) → now < 2 ^ 64 → EndsAt (first_setting e) (first_start e) now
+  ends_at now small =
+      by_end (h.sound.serves e.input h.bytes h.nth e.call h.called (at_time (first_setting e) now)
+      (record { statements_are = refl; rendered_are = refl; budget_is = refl; slots_are = refl; free_are = refl })
+      (record { intact = h.intact; parsed = called; lent = refl }) e.taken h.held h.stands now small no_notes (ByClock refl refl))
+    where
+      well : (end : Machine) (steps : ℕ) → EndsWell (at_time (first_setting e) now) (λ ws. Stands ws (answer e.input h.nth h.held now).0) (answer e.input h.nth h.held now).1 (first_start e) end steps → EndsAt (first_setting e) (first_start e) now
+      well end steps w = record {
+        end = end;
+        steps = steps;
+        halts = w.run;
+        within = w.within;
+        ordered = w.ordered;
+        rising = w.rising;
+        coded = w.coded ∙ ap (λ (r : List ℕ). let o : Option ℕ = Some (message_code e.sealed.answer r) in o) (sym w.replied);
+      }
+
+      by_end : Serves (at_time (first_setting e) now) (λ ws. Stands ws (answer e.input h.nth h.held now).0) (answer e.input h.nth h.held now).1 (first_start e) → EndsAt (first_setting e) (first_start e) now
+      by_end (Well end steps w) = well end steps w
+      by_end (Unfit second m n f) = absurd (both_ways false refl second)
+
+  -- each honest first pass of it ends well
+  pub asked_is_errand : IsErrand e
+  asked_is_errand = record { intact = h.intact; has = h.has; called = called; bucket = h.bucket; clock = h.clock; ends = ends_at }

@@ -1,0 +1,13 @@
+pub mod Service
+pub mod Acts
+pub mod Phases
+pub mod PassActs
+pub mod Step
+pub mod Comes
+pub mod Walks
+pub mod Errand
+pub mod Unstruck
+pub mod State
+pub mod OnWay
+pub mod Served
+pub mod Sound

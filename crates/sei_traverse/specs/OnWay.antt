@@ -1,0 +1,83 @@
+-- A traversal that is on its way: where no strike fell since it began, it stands where its definition leads.
+use Rattle.std.specs.Prelude.{◌≡◌, ℕ, false, ◌+◌, ◌-◌, ◌^◌, ◌<◌, ◌≤◌, List, Option, Some, None}
+use Rattle.std.specs.Option.{option_map}
+use Rattle.sei_fault.specs.Counts.{Counts}
+use Rattle.sei_fault.specs.declared.place.Phase.{Phase}
+use Rattle.sei_fault.specs.declared.place.Phase.TheVariants.{Guard, Take, Send, Done as Last}
+use Rattle.sei_words.specs.Words.{BucketWords}
+use Rattle.sei_traverse.specs.declared.turned.State.{State}
+use Rattle.sei_traverse.specs.declared.turned.State.TheVariants.{Went, Finished, Refused, Aborted}
+use Rattle.sei_traverse.specs.declared.turned.Want.{Want}
+use Rattle.sei_traverse.specs.declared.walk.Walk.{Walk}
+use Rattle.sei_pass.specs.Setting.{is_intact}
+use Rattle.sei_traverse.specs.Acts.{at}
+use Rattle.sei_traverse.specs.Errand.{Errand, TellsTime}
+use Rattle.sei_traverse.specs.Service.{Given, has_sealed_call}
+use Rattle.sei_traverse.specs.State.{TraversalState}
+use Rattle.sei_traverse.specs.Unstruck.{want_in, NextIn, Clean, IsFinished}
+
+-- the words that are lent, if any
+abbrev pub lent_words : Option BucketWords → Option (List ℕ)
+lent_words = option_map (λ (b : BucketWords). b.words)
+
+-- the errand's bucket is lent
+abbrev pub LendsBucket : Errand → Option BucketWords → Type 0
+LendsBucket e None = ⊥
+LendsBucket e (Some b) = b.bucket ≡ e.call.bucket
+
+-- the bucket is lent from the want of Take to the want of Give
+abbrev pub Lends : Errand → Phase → Option BucketWords → Type 0
+Lends e Guard loan = loan ≡ None
+Lends e Take loan = loan ≡ None
+Lends e Send loan = loan ≡ None
+Lends e Last loan = loan ≡ None
+Lends e phase loan = LendsBucket e loan
+
+-- a step's clock is the errand's: it tells the same, or the errand says nothing of what it tells
+abbrev pub TellsAs : Option ℕ → Option ℕ → Type 0
+TellsAs None told = TellsTime told
+TellsAs (Some time) told = told ≡ Some time
+
+-- the traversal stands where an honest one does, and so many questions were asked at least
+pub record IsClean (e : Errand) (t : TraversalState) (lent : Option (List ℕ)) (begin now : Counts) : Type 0 where
+  pub geometry : t.geometry ≡ e.geometry
+  pub asked : ℕ
+  pub clean : Clean e t.walk lent t.steps asked
+  pub counted : now.asked < 2 ^ 128 - 1 → begin.asked + asked ≤ now.asked
+
+-- unless a strike fell since these counts
+pub record OnWay (e : Errand) (t : TraversalState) (lent : Option (List ℕ)) (begin now : Counts) : Type 0 where
+  pub later : begin.struck ≤ now.struck
+  pub clean : now.struck ≡ begin.struck → IsClean e t lent begin now
+
+-- the same at its end
+pub record IsCleanEnd (e : Errand) (t : TraversalState) (begin now : Counts) : Type 0 where
+  pub asked : ℕ
+  pub finished : IsFinished e t.walk t.steps asked
+  pub counted : now.asked < 2 ^ 128 - 1 → begin.asked + asked ≤ now.asked
+
+pub record AtEnd (e : Errand) (t : TraversalState) (begin now : Counts) : Type 0 where
+  pub later : begin.struck ≤ now.struck
+  pub clean : now.struck ≡ begin.struck → IsCleanEnd e t begin now
+
+-- behind a step of such a traversal: it is on its way or at its end, unless a strike fell, and only then it is refused or aborts
+abbrev pub OnWayAfter : Errand → TraversalState → Option (List ℕ) → Counts → Counts → State → Type 0
+OnWayAfter e t lent begin now Went = OnWay e t lent begin now
+OnWayAfter e t lent begin now Finished = AtEnd e t begin now
+OnWayAfter e t lent begin now Refused = begin.struck < now.struck
+OnWayAfter e t lent begin now (Aborted abort) = begin.struck < now.struck
+
+-- and what it wants, and which phase comes next
+pub record StaysOnWay (e : Errand) (old new : TraversalState) (lent : Option (List ℕ)) (begin now : Counts) (want : Want) (state : State) : Type 0 where
+  pub goes : OnWayAfter e new lent begin now state
+  pub wants : now.struck ≡ begin.struck → want ≡ want_in e old.walk old.walk.place.phase
+  pub next : now.struck ≡ begin.struck → NextIn old.walk.place.phase old.walk.place.index new.walk.place.phase
+
+-- a traversal in Guard whose input is not the sealed one, or not one whole request with the sealed call
+pub data Fails (g : Given) (w : Walk) : Type 0 where
+  Altered : is_intact w.sealed g.input ≡ false → Fails g w
+  NoCall : has_sealed_call g w.sealed ≡ false → Fails g w
+
+pub record IsUnfit (g : Given) (w : Walk) : Type 0 where
+  pub place : w.place ≡ at Guard 0
+  pub fails : Fails g w

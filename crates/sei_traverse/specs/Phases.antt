@@ -1,0 +1,128 @@
+-- The act of each step outside the two passes.
+use Rattle.std.specs.Prelude.{ℕ, ◌+◌, ◌-◌, ◌%◌, ◌^◌, Bool, ◌==◌, nat_lt, List, [], ◌∷◌, length, max, Option, Some, None, slice_get, if◌then◌else◌}
+use Rattle.std.specs.declared.result.Result.{Result}
+use Rattle.std.specs.declared.result.Result.TheVariants.{Ok, Err}
+use Rattle.sei_code.specs.Kept.{emptied}
+use Rattle.mc_model.specs.declared.geometry.Geometry.{Geometry}
+use Rattle.sei_fault.specs.declared.cause.AbortCause.{AbortCause}
+use Rattle.sei_fault.specs.declared.cause.AbortCause.TheVariants.{Range, Differs, Reply as Replies, Wire as Wires}
+use Rattle.sei_fault.specs.declared.place.Phase.TheVariants.{Guard, Take, First, Restore, Second, Compare, Verify, Enter, Give, Send, Done as Last}
+use Rattle.sei_fault.specs.Question.Question.{Value, Written, Test}
+use Rattle.sei_fault.specs.Tree.{Tree, bound}
+use Rattle.sei_fault.specs.Tree.Tree.{Ask}
+use Rattle.sei_stmt.specs.Handling.{refilled}
+use Rattle.sei_pass.specs.Setting.{is_intact}
+use Rattle.sei_restore.specs.Undoing.{Undone, undo_at}
+use Rattle.sei_compare.specs.Comparing.{entry_tree, codes_tree, word_at, wire_tree}
+use Rattle.sei_traverse.specs.declared.turned.Want.{Want}
+use Rattle.sei_traverse.specs.declared.turned.Want.TheVariants.{Nothing, Take as WantTake, Enter as WantEnter, Give as WantGive, Send as WantSend}
+use Rattle.sei_traverse.specs.declared.walk.Ending.TheVariants.{Leads, Refuses, Aborts}
+use Rattle.sei_traverse.specs.declared.walk.Walk.{Walk}
+use Rattle.sei_traverse.specs.Acts.{Acted, ends, at, closing_then, closes}
+use Rattle.sei_traverse.specs.Service.{Given, has_sealed_call, bucket_of_call}
+
+-- Guard: the input is the sealed one, and one whole request with the sealed call; otherwise it is refused
+
+abbrev pub guard_call : Given → Walk → List ℕ → Tree Acted
+guard_call g w words =
+    Ask (Test (has_sealed_call g w.sealed)) (λ yes. if yes then closes Guard w words Nothing (at Take 0) else ends w words Refuses)
+
+abbrev pub guard_tree : Given → Walk → List ℕ → Tree Acted
+guard_tree g w words = Ask (Test (is_intact w.sealed g.input)) (λ yes. if yes then guard_call g w words else ends w words Refuses)
+
+-- Take: the call's bucket is stored as the wanted one, and then that one is wanted
+
+abbrev pub store_wanted : Given → Walk → List ℕ → Tree Acted
+store_wanted g w words =
+    Ask (Value (bucket_of_call g w.sealed)) (λ b. Ask (Written b) (λ wanted. ends (record w { wanted = wanted }) words (Leads (at Take 1))))
+
+abbrev pub take_wanted : Geometry → List ℕ → Walk → Tree Acted
+take_wanted g words w =
+    if nat_lt w.wanted g.buckets
+    then ends (record w { want = WantTake w.wanted }) words (Leads (at First 0))
+    else ends w words (Aborts (Range w.wanted))
+
+abbrev pub take_tree : Given → ℕ → Walk → List ℕ → Tree Acted
+take_tree g index w words = if index == 0 then store_wanted g w words else closing_then Take w words (take_wanted g.geometry words)
+
+-- Restore: the changes of the first log are undone, the last one first
+
+abbrev pub undone_as : Walk → List ℕ → ℕ → Option AbortCause → Tree Acted
+undone_as w words index None = ends w words (Leads (at Restore (index + 1)))
+undone_as w words index (Some cause) = ends w words (Aborts cause)
+
+abbrev pub undone_to : Walk → ℕ → Undone → Tree Acted
+undone_to w index u = undone_as w u.words index u.cause
+
+abbrev pub restore_tree : ℕ → Walk → List ℕ → Tree Acted
+restore_tree index w words =
+    if nat_lt index (length w.first_log.items)
+    then bound (undo_at words (slice_get w.first_log.items (length w.first_log.items - 1 - index))) (undone_to w index)
+    else closes Restore w words Nothing (at Second 0)
+
+-- Compare: the entries of both logs, one by one, and then the outputs
+
+-- how many entries the longer log has
+abbrev pub compared : Walk → ℕ
+compared w = max (length w.first_log.items) (length w.second_log.items)
+
+abbrev pub entries_to : Walk → List ℕ → ℕ → Bool → Tree Acted
+entries_to w words index same = if same then ends w words (Leads (at Compare (index + 1))) else ends w words (Aborts (Differs index))
+
+abbrev pub outputs_to : Walk → List ℕ → Bool → Tree Acted
+outputs_to w words same = if same then closes Compare w words Nothing (at Verify 0) else ends w words (Aborts Replies)
+
+abbrev pub compare_tree : ℕ → Walk → List ℕ → Tree Acted
+compare_tree index w words =
+    if nat_lt index (compared w)
+    then bound (entry_tree w.first_log.items w.second_log.items index) (entries_to w words index)
+    else bound (codes_tree w.first.code w.first.bytes.items w.second.code w.second.bytes.items) (outputs_to w words)
+
+-- Verify: each changed word is read back, then the copy for the wire is made anew, and tested
+
+abbrev pub word_to : Walk → List ℕ → ℕ → Result Bool AbortCause → Tree Acted
+word_to w words index (Ok same) = if same then ends w words (Leads (at Verify (index + 1))) else ends w words (Aborts (Differs index))
+word_to w words index (Err cause) = ends w words (Aborts cause)
+
+-- the reply: the output bytes of the second pass
+abbrev pub reply_of : Walk → List ℕ
+reply_of w = w.second.bytes.items
+
+-- the copy is the reply, the first one stored through the core
+abbrev pub copy_bytes : Walk → List ℕ → ℕ → List ℕ → Tree Acted
+copy_bytes w words index [] = ends (record w { wire = emptied w.wire }) words (Leads (at Verify (index + 1)))
+copy_bytes w words index (byte ∷ bytes) =
+    Ask (Written byte) (λ b. ends (record w { wire = refilled w.wire (b % 2 ^ 8 ∷ bytes) }) words (Leads (at Verify (index + 1))))
+
+abbrev pub wire_to : Walk → List ℕ → Bool → Tree Acted
+wire_to w words same = if same then closes Verify w words Nothing (at Enter 0) else ends w words (Aborts Wires)
+
+abbrev pub verify_copy : ℕ → Walk → List ℕ → Tree Acted
+verify_copy index w words =
+    if index == length w.second_log.items
+    then copy_bytes w words index (reply_of w)
+    else bound (wire_tree w.sealed.answer w.first.code w.first.bytes.items w.wire.items) (wire_to w words)
+
+abbrev pub verify_tree : ℕ → Walk → List ℕ → Tree Acted
+verify_tree index w words =
+    if nat_lt index (length w.second_log.items)
+    then bound (word_at words (slice_get w.second_log.items index)) (word_to w words index)
+    else verify_copy index w words
+
+-- Enter, Give, Send and Done are closed, each with its want; a reply that is empty is not sent
+
+abbrev pub send_want : List ℕ → Want
+send_want [] = Nothing
+send_want (byte ∷ bytes) = WantSend
+
+abbrev pub enter_tree : Walk → List ℕ → Tree Acted
+enter_tree w words = closes Enter w words WantEnter (at Give 0)
+
+abbrev pub give_tree : Walk → List ℕ → Tree Acted
+give_tree w words = closes Give w words WantGive (at Send 0)
+
+abbrev pub send_tree : Walk → List ℕ → Tree Acted
+send_tree w words = closes Send w words (send_want (reply_of w)) (at Last 0)
+
+abbrev pub done_tree : Walk → List ℕ → Tree Acted
+done_tree w words = closes Last w words Nothing (at Last 1)

@@ -1,0 +1,55 @@
+-- What a traversal is given of its handler, and with each step.
+use Rattle.std.specs.Prelude.{ℕ, Bool, false, nat_lt, List, Option, Some, None}
+use Rattle.sei_code.specs.Coded.{read_of}
+use Rattle.mc_model.specs.declared.geometry.Geometry.{Geometry}
+use Rattle.sei_stmt.specs.declared.stmt.Stmt.{Stmt}
+use Rattle.sei_stmt.specs.Handling.{Parsed, parsed_bucket}
+use Rattle.sei_stmt.specs.Machine.{Setting}
+use Rattle.sei_pass.specs.declared.given.Sealed.{Sealed}
+use Rattle.sei_pass.specs.declared.given.Which.{Which}
+use Rattle.sei_pass.specs.Setting.{sealed_call, setting_of}
+
+-- a handler: its table, how many calls an input has, each call of an input, and the bytes that output words stand for
+pub record Service : Type 0 where
+  pub statements : List Stmt
+  pub calls : List ℕ → Option ℕ
+  pub parsed : List ℕ → ℕ → Option Parsed
+  pub rendered : List ℕ → Option (List ℕ)
+
+abbrev pub service_of : List Stmt → (List ℕ → Option ℕ) → (List ℕ → ℕ → Option Parsed) → (List ℕ → Option (List ℕ)) → Service
+service_of statements calls parsed rendered = record { statements = statements; calls = calls; parsed = parsed; rendered = rendered }
+
+-- what a step is given: the handler, the input, the geometry, and the number of the bucket that is lent
+pub record Given : Type 0 where
+  pub service : Service
+  pub input : List ℕ
+  pub geometry : Geometry
+  pub lent : Option ℕ
+
+abbrev pub given_of : Service → List ℕ → Geometry → Option ℕ → Given
+given_of service input geometry lent = record { service = service; input = input; geometry = geometry; lent = lent }
+
+-- there are calls, and the index reads and is below their number
+abbrev pub has_call : Option ℕ → Option ℕ → Bool
+has_call None nth = false
+has_call (Some calls) None = false
+has_call (Some calls) (Some nth) = nat_lt nth calls
+
+-- the input is one whole request that has the sealed call
+abbrev pub has_sealed_call : Given → Sealed → Bool
+has_sealed_call g sealed = has_call (g.service.calls g.input) (read_of sealed.nth)
+
+abbrev pub call_of : Given → Sealed → Option Parsed
+call_of g sealed = sealed_call (g.service.parsed g.input) sealed.nth
+
+abbrev pub bucket_or_zero : Option ℕ → ℕ
+bucket_or_zero None = 0
+bucket_or_zero (Some bucket) = bucket
+
+-- the bucket of the sealed call, or 0 where the input has no such call
+abbrev pub bucket_of_call : Given → Sealed → ℕ
+bucket_of_call g sealed = bucket_or_zero (parsed_bucket (call_of g sealed))
+
+-- the setting of a pass, where the clock answers this
+abbrev pub setting_in : Given → Which → Sealed → ℕ → Setting
+setting_in g which sealed now = setting_of which g.service.statements g.service.parsed g.service.rendered g.input sealed g.lent g.geometry now

@@ -1,0 +1,61 @@
+-- What a traversal holds.
+use Rattle.std.specs.Prelude.{◌≡◌, ℕ, ◌+◌, ◌-◌, ◌^◌, Bool, true, false, Option, min}
+use Rattle.std.specs.Option.{option_and_then}
+use Rattle.sei_code.specs.Coded.{read_of}
+use Rattle.sei_code.specs.Kept.{empty_kept}
+use Rattle.sei_log.specs.declared.log.Change.{Change}
+use Rattle.mc_model.specs.declared.geometry.Geometry.{Geometry}
+use Rattle.sei_fault.specs.declared.place.Phase.TheVariants.{Guard}
+use Rattle.sei_pass.specs.declared.given.Sealed.{Sealed}
+use Rattle.sei_pass.specs.State.{new_pass, bytes_room}
+use Rattle.sei_traverse.specs.declared.turned.State.{State}
+use Rattle.sei_traverse.specs.declared.turned.State.TheVariants.{Went, Finished, Refused, Aborted}
+use Rattle.sei_traverse.specs.declared.turned.Want.TheVariants.{Nothing}
+use Rattle.sei_traverse.specs.declared.walk.Walk.{Walk}
+use Rattle.sei_traverse.specs.Acts.{at}
+use Rattle.sei_traverse.specs.Errand.{no_notes}
+use Rattle.sei_traverse.specs.Walks.{log_room, IsWalk}
+
+-- what its acts work on, its geometry, how many steps it made since it began, and whether it goes on
+pub record TraversalState : Type 0 where
+  pub walk : Walk
+  pub geometry : Geometry
+  pub steps : ℕ
+  pub running : Bool
+
+pub record IsTraversal (t : TraversalState) : Type 0 where
+  pub walk : IsWalk t.walk
+  pub geometry : t.walk.first.geometry ≡ t.geometry
+
+-- before its first step
+abbrev pub begun_walk : Geometry → Sealed → Walk
+begun_walk g sealed = record {
+  sealed = sealed;
+  place = at Guard 0;
+  gate = record { done = 0 };
+  wanted = 0;
+  want = Nothing;
+  first = new_pass g;
+  second = new_pass g;
+  first_log = empty_kept Change (log_room g);
+  second_log = empty_kept Change (log_room g);
+  notes = no_notes;
+  wire = empty_kept ℕ (bytes_room g);
+}
+
+abbrev pub begun : Geometry → Sealed → TraversalState
+begun g sealed = record { walk = begun_walk g sealed; geometry = g; steps = 0; running = true }
+
+-- one step more; at the last value of a u64 the number stays
+abbrev pub one_more : ℕ → ℕ
+one_more steps = min (steps + 1) (2 ^ 64 - 1)
+
+abbrev pub goes_on : State → Bool
+goes_on Went = true
+goes_on Finished = false
+goes_on Refused = false
+goes_on (Aborted abort) = false
+
+-- the time that was noted, where one was and it reads
+abbrev pub noted_time : TraversalState → Option ℕ
+noted_time t = option_and_then read_of t.walk.notes.now

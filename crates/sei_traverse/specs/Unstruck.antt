@@ -1,0 +1,287 @@
+-- Where a traversal that nothing struck stands.
+use Rattle.std.specs.Prelude.{◌≡◌, ℕ, zero, suc, ◌+◌, ◌*◌, ◌≤◌, List, length, Option, Some, None, ⊤}
+use Rattle.sei_code.specs.Kept.{empty_kept}
+use Rattle.sei_fault.specs.declared.place.Phase.{Phase}
+use Rattle.sei_fault.specs.declared.place.Phase.TheVariants.{Guard, Take, First, Restore, Second, Compare, Verify, Enter, Give, Send, Done as Last}
+use Rattle.sei_fault.specs.Phases.{phase_number}
+use Rattle.sei_log.specs.declared.log.Change.{Change}
+use Rattle.sei_restore.specs.Undoing.{restored}
+use Rattle.sei_stmt.specs.Honest.{after, asked_after}
+use Rattle.sei_stmt.specs.Machine.{Machine}
+use Rattle.sei_stmt.specs.Machine.Outcome.{Next}
+use Rattle.sei_pass.specs.State.{new_pass}
+use Rattle.sei_traverse.specs.declared.turned.Want.{Want}
+use Rattle.sei_traverse.specs.declared.turned.Want.TheVariants.{Nothing, Take as WantTake, Enter as WantEnter, Give as WantGive}
+use Rattle.sei_traverse.specs.declared.walk.Walk.{Walk}
+use Rattle.sei_traverse.specs.Phases.{send_want}
+use Rattle.sei_traverse.specs.Acts.{at}
+use Rattle.sei_traverse.specs.PassActs.{pass_of, first_machine, second_machine}
+use Rattle.sei_traverse.specs.Comes.{at_time, again, renoted, Comes}
+use Rattle.sei_traverse.specs.Errand.{Errand, first_setting, first_start, no_notes, Follows, Whole}
+use Rattle.sei_traverse.specs.Walks.{log_room}
+
+-- the call that is sealed is the errand's, and as many phases are closed as stand before this one
+pub record IsOf (e : Errand) (w : Walk) (phase : Phase) : Type 0 where
+  pub sealed : w.sealed ≡ e.sealed
+  pub gate : w.gate.done ≡ phase_number phase
+
+-- a pass that did not begin
+pub record FirstIsNew (e : Errand) (w : Walk) : Type 0 where
+  pub first : w.first ≡ new_pass e.geometry
+  pub first_log : w.first_log ≡ empty_kept Change (log_room e.geometry)
+  pub notes : w.notes ≡ no_notes
+
+pub record SecondIsNew (e : Errand) (w : Walk) : Type 0 where
+  pub second : w.second ≡ new_pass e.geometry
+  pub second_log : w.second_log ≡ empty_kept Change (log_room e.geometry)
+
+-- a pass that ended with this machine
+pub record FirstIsDone (e : Errand) (w : Walk) (end : Machine) : Type 0 where
+  pub first : w.first ≡ pass_of (new_pass e.geometry) end
+  pub first_log : w.first_log ≡ end.log
+  pub notes : w.notes ≡ end.notes
+
+pub record SecondIsDone (e : Errand) (w : Walk) (end : Machine) : Type 0 where
+  pub second : w.second ≡ pass_of (new_pass e.geometry) end
+  pub second_log : w.second_log ≡ end.log
+
+-- how many steps stand before a phase at most, for a pass of n statements that logs k changes
+
+abbrev pub before_restore : ℕ → ℕ
+before_restore n = 3 + n
+
+abbrev pub before_second : ℕ → ℕ → ℕ
+before_second n k = 4 + n + k
+
+abbrev pub before_compare : ℕ → ℕ → ℕ
+before_compare n k = 4 + 2 * n + k
+
+abbrev pub before_verify : ℕ → ℕ → ℕ
+before_verify n k = 5 + 2 * n + 2 * k
+
+abbrev pub before_enter : ℕ → ℕ → ℕ
+before_enter n k = 7 + 2 * n + 3 * k
+
+-- the cases, by phase. `lent` are the words that are lent, `steps` is the number of steps so far, and `asked` a number
+-- of questions that were asked at least
+
+pub record InGuard (e : Errand) (w : Walk) (steps asked : ℕ) : Type 0 where
+  pub is : IsOf e w Guard
+  pub index : w.place.index ≡ 0
+  pub first : FirstIsNew e w
+  pub second : SecondIsNew e w
+  pub number : steps ≤ 0
+  pub questions : asked ≡ 0
+
+-- at the second step, the call's bucket is wanted
+abbrev pub WantedAt : Errand → ℕ → ℕ → Type 0
+WantedAt e zero wanted = ⊤
+WantedAt e (suc index) wanted = wanted ≡ e.call.bucket
+
+pub record InTake (e : Errand) (w : Walk) (steps asked : ℕ) : Type 0 where
+  pub is : IsOf e w Take
+  pub index : w.place.index ≤ 1
+  pub wanted : WantedAt e w.place.index w.wanted
+  pub first : FirstIsNew e w
+  pub second : SecondIsNew e w
+  pub number : steps ≤ 1 + w.place.index
+  pub questions : asked ≡ 0
+
+-- before its first statement, no words need to be lent yet; then an honest first pass has come here
+pub record FirstWaits (e : Errand) (w : Walk) (steps asked : ℕ) : Type 0 where
+  pub index : w.place.index ≡ 0
+  pub first : FirstIsNew e w
+  pub number : steps ≤ 3
+  pub questions : asked ≡ 0
+
+pub record FirstRuns (e : Errand) (w : Walk) (words : List ℕ) (steps asked : ℕ) : Type 0 where
+  pub geometry : w.first.geometry ≡ e.geometry
+  pub made : ℕ
+  pub comes : Comes (first_setting e) (first_start e) made (record { machine = first_machine w words; outcome = Next w.place.index }) asked
+  pub told : Follows e.clock comes.time
+  pub number : steps ≤ 3 + made
+
+abbrev pub FirstAt : Errand → Walk → Option (List ℕ) → ℕ → ℕ → Type 0
+FirstAt e w None steps asked = FirstWaits e w steps asked
+FirstAt e w (Some words) steps asked = FirstRuns e w words steps asked
+
+pub record InFirst (e : Errand) (w : Walk) (lent : Option (List ℕ)) (steps asked : ℕ) : Type 0 where
+  pub is : IsOf e w First
+  pub second : SecondIsNew e w
+  pub at : FirstAt e w lent steps asked
+
+-- the questions of so many statements of the first pass at a time
+abbrev pub first_questions : Errand → ℕ → ℕ → ℕ
+first_questions e time n = asked_after (at_time (first_setting e) time) (first_start e) n
+
+-- as many of its changes are undone as the index says
+pub record InRestore (e : Errand) (w : Walk) (lent : Option (List ℕ)) (steps asked : ℕ) : Type 0 where
+  pub is : IsOf e w Restore
+  pub time : ℕ
+  pub made : ℕ
+  pub end : Machine
+  pub whole : Whole e time made end
+  pub first : FirstIsDone e w end
+  pub second : SecondIsNew e w
+  pub index : w.place.index ≤ length end.log.items
+  pub words : lent ≡ Some (restored end.log.items end.words w.place.index)
+  pub number : steps ≤ before_restore made + w.place.index
+  pub questions : asked ≡ first_questions e time made
+
+-- an honest second pass, by the notes of the first, has come here behind n statements
+pub record InSecond (e : Errand) (w : Walk) (lent : Option (List ℕ)) (steps asked : ℕ) : Type 0 where
+  pub is : IsOf e w Second
+  pub time : ℕ
+  pub made : ℕ
+  pub end : Machine
+  pub whole : Whole e time made end
+  pub first : FirstIsDone e w end
+  pub geometry : w.second.geometry ≡ e.geometry
+  pub words : List ℕ
+  pub lent_are : lent ≡ Some words
+  pub n : ℕ
+  pub within : n ≤ made
+  pub comes : after (again (first_setting e)) (renoted end.notes (first_start e)) n ≡ record { machine = second_machine w words; outcome = Next w.place.index }
+  pub number : steps ≤ before_second made (length end.log.items) + n
+  pub questions : asked ≡ first_questions e time made + asked_after (again (first_setting e)) (renoted end.notes (first_start e)) n
+
+-- both passes have come to the same end, and so have the words
+pub record InBoth (e : Errand) (w : Walk) (lent : Option (List ℕ)) (time made : ℕ) (end : Machine) (asked : ℕ) : Type 0 where
+  pub whole : Whole e time made end
+  pub first : FirstIsDone e w end
+  pub second : SecondIsDone e w end
+  pub words : lent ≡ Some end.words
+  pub questions : 2 * first_questions e time made ≤ asked
+
+pub record InCompare (e : Errand) (w : Walk) (lent : Option (List ℕ)) (steps asked : ℕ) : Type 0 where
+  pub is : IsOf e w Compare
+  pub time : ℕ
+  pub made : ℕ
+  pub end : Machine
+  pub both : InBoth e w lent time made end asked
+  pub index : w.place.index ≤ length end.log.items
+  pub number : steps ≤ before_compare made (length end.log.items) + w.place.index
+
+-- behind the last changed word, the copy for the wire is made
+abbrev pub CopyAt : Walk → ℕ → List ℕ → Type 0
+CopyAt w k bytes = w.place.index ≡ k + 1 → w.wire.items ≡ bytes
+
+pub record InVerify (e : Errand) (w : Walk) (lent : Option (List ℕ)) (steps asked : ℕ) : Type 0 where
+  pub is : IsOf e w Verify
+  pub time : ℕ
+  pub made : ℕ
+  pub end : Machine
+  pub both : InBoth e w lent time made end asked
+  pub index : w.place.index ≤ length end.log.items + 1
+  pub copy : CopyAt w (length end.log.items) end.bytes.items
+  pub number : steps ≤ before_verify made (length end.log.items) + w.place.index
+
+-- all is compared: the copy for the wire is the reply
+pub record InEnter (e : Errand) (w : Walk) (lent : Option (List ℕ)) (steps asked : ℕ) : Type 0 where
+  pub is : IsOf e w Enter
+  pub time : ℕ
+  pub made : ℕ
+  pub end : Machine
+  pub both : InBoth e w lent time made end asked
+  pub index : w.place.index ≡ 0
+  pub copy : w.wire.items ≡ end.bytes.items
+  pub number : steps ≤ before_enter made (length end.log.items)
+
+pub record InGive (e : Errand) (w : Walk) (lent : Option (List ℕ)) (steps asked : ℕ) : Type 0 where
+  pub is : IsOf e w Give
+  pub time : ℕ
+  pub made : ℕ
+  pub end : Machine
+  pub both : InBoth e w lent time made end asked
+  pub index : w.place.index ≡ 0
+  pub copy : w.wire.items ≡ end.bytes.items
+  pub number : steps ≤ before_enter made (length end.log.items) + 1
+
+-- the reply is made, and the copy for the wire
+pub record IsAnswered (e : Errand) (w : Walk) (time made : ℕ) (end : Machine) (asked : ℕ) : Type 0 where
+  pub whole : Whole e time made end
+  pub second : SecondIsDone e w end
+  pub copy : w.wire.items ≡ end.bytes.items
+  pub questions : 2 * first_questions e time made ≤ asked
+
+-- as long as words are lent, they are still those
+abbrev pub StillAre : Option (List ℕ) → List ℕ → Type 0
+StillAre None words = ⊤
+StillAre (Some lent) words = lent ≡ words
+
+-- the bucket is given back
+pub record InSend (e : Errand) (w : Walk) (lent : Option (List ℕ)) (steps asked : ℕ) : Type 0 where
+  pub is : IsOf e w Send
+  pub time : ℕ
+  pub made : ℕ
+  pub end : Machine
+  pub answered : IsAnswered e w time made end asked
+  pub index : w.place.index ≡ 0
+  pub words : StillAre lent end.words
+  pub number : steps ≤ before_enter made (length end.log.items) + 2
+
+pub record InDone (e : Errand) (w : Walk) (steps asked : ℕ) : Type 0 where
+  pub is : IsOf e w Last
+  pub time : ℕ
+  pub made : ℕ
+  pub end : Machine
+  pub answered : IsAnswered e w time made end asked
+  pub index : w.place.index ≡ 0
+  pub number : steps ≤ before_enter made (length end.log.items) + 3
+
+-- at its end
+pub record IsFinished (e : Errand) (w : Walk) (steps asked : ℕ) : Type 0 where
+  pub place : w.place ≡ at Last 1
+  pub gate : w.gate.done ≡ 11
+  pub time : ℕ
+  pub made : ℕ
+  pub end : Machine
+  pub answered : IsAnswered e w time made end asked
+  pub number : steps ≤ before_enter made (length end.log.items) + 4
+
+abbrev pub CleanIn : Errand → Walk → Option (List ℕ) → ℕ → ℕ → Phase → Type 0
+CleanIn e w lent steps asked Guard = InGuard e w steps asked
+CleanIn e w lent steps asked Take = InTake e w steps asked
+CleanIn e w lent steps asked First = InFirst e w lent steps asked
+CleanIn e w lent steps asked Restore = InRestore e w lent steps asked
+CleanIn e w lent steps asked Second = InSecond e w lent steps asked
+CleanIn e w lent steps asked Compare = InCompare e w lent steps asked
+CleanIn e w lent steps asked Verify = InVerify e w lent steps asked
+CleanIn e w lent steps asked Enter = InEnter e w lent steps asked
+CleanIn e w lent steps asked Give = InGive e w lent steps asked
+CleanIn e w lent steps asked Send = InSend e w lent steps asked
+CleanIn e w lent steps asked Last = InDone e w steps asked
+
+-- what the act of a phase wants without a strike
+abbrev pub take_want : Errand → ℕ → Want
+take_want e zero = Nothing
+take_want e (suc index) = WantTake e.call.bucket
+
+abbrev pub want_in : Errand → Walk → Phase → Want
+want_in e w Take = take_want e w.place.index
+want_in e w Enter = WantEnter
+want_in e w Give = WantGive
+want_in e w Send = send_want w.second.bytes.items
+want_in e w phase = Nothing
+
+-- the phases in which the bucket is lent
+abbrev pub IsLent : Phase → Type 0
+IsLent Guard = ⊥
+IsLent Take = ⊥
+IsLent Send = ⊥
+IsLent Last = ⊥
+IsLent phase = ⊤
+
+-- the phase behind a step without a strike, as far as what is lent goes
+abbrev pub NextIn : Phase → ℕ → Phase → Type 0
+NextIn Guard index next = next ≡ Take
+NextIn Take zero next = next ≡ Take
+NextIn Take (suc index) next = next ≡ First
+NextIn Give index next = next ≡ Send
+NextIn Send index next = next ≡ Last
+NextIn Last index next = next ≡ Last
+NextIn phase index next = IsLent next
+
+-- a traversal that nothing struck, at one of its steps
+pub record Clean (e : Errand) (w : Walk) (lent : Option (List ℕ)) (steps asked : ℕ) : Type 0 where
+  pub in_phase : CleanIn e w lent steps asked w.place.phase

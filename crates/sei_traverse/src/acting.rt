@@ -1,0 +1,57 @@
+//! The act at a place, whichever its phase is.
+ghost use Rattle.std.specs.Prelude.{◌≡◌, ℕ, ◌+◌, ◌<◌, ◌≤◌, ◌^◌, length};
+ghost use Rattle.sei_stmt.specs.Handling.{parsed_words};
+ghost use Rattle.sei_words.specs.Loan.{words_of, bucket_of, place_of, IsOf};
+ghost use Rattle.sei_pass.specs.Setting.{sealed_call};
+ghost use Rattle.sei_pass.specs.State.{input_room};
+ghost use Rattle.sei_traverse.specs.Acts.{acted};
+ghost use Rattle.sei_traverse.specs.Service.{service_of, given_of};
+ghost use Rattle.sei_traverse.specs.Step.{act_tree, Timed};
+ghost use Rattle.sei_traverse.specs.Walks.{IsWalk, Stays};
+
+use crate::walk::{Ending, Walk};
+use mc_model::Geometry;
+use sei_fault::{Core, Phase};
+use sei_outside::Clock;
+use sei_pass::Slots;
+use sei_stmt::Handler;
+
+impl Walk {
+    /// Does what is to be done at this place.
+    pub fn act<H: Handler, L: Slots, K: Core, C: Clock>(
+        &mut self,
+        hands: &H,
+        input: &[u8],
+        g: &Geometry,
+        lent: &mut L,
+        core: &mut K,
+        clock: &C,
+    ) -> Ending
+        requires walk { IsWalk self.old }
+        requires geometry { self.old.first.geometry ≡ g.now }
+        requires room { length (parsed_words (sealed_call (H.parsed hands.now input.now) self.old.sealed.nth)) ≤ input_room g.now }
+        requires index { self.old.place.index + 1 < 2 ^ 64 }
+        requires lent { IsOf g.now (L.loan lent.old) }
+        ensures act { Timed K.gives (C.told clock.now)
+            (λ now. act_tree (given_of (service_of (H.statements hands.now) (H.call_count hands.now) (H.parsed hands.now) (H.rendered hands.now)) input.now g.now (bucket_of (L.loan lent.old)))
+            now self.old (words_of (L.loan lent.old)))
+            core.old core.new (acted self.new (words_of (L.loan lent.new)) result) }
+        ensures lent { place_of (L.loan lent.new) ≡ place_of (L.loan lent.old) }
+        ensures stays { Stays self.old self.new }
+        ensures place { self.new.place ≡ self.old.place }
+    {
+        match self.place.phase {
+            Phase::Guard => self.guard(hands, input, core),
+            Phase::Take => self.take(hands, input, g, core),
+            Phase::First => self.first(hands, input, lent, core, clock),
+            Phase::Restore => self.restore(lent, core),
+            Phase::Second => self.second(hands, input, lent, core, clock),
+            Phase::Compare => self.compare(core),
+            Phase::Verify => self.verify(lent, core),
+            Phase::Enter => self.enter(core),
+            Phase::Give => self.give(core),
+            Phase::Send => self.send(core),
+            Phase::Done => self.finish(core),
+        }
+    }
+}

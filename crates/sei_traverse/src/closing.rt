@@ -1,0 +1,92 @@
+//! The acts behind the last comparison: each closes its phase.
+ghost use Rattle.std.specs.Prelude.{◌≡◌, ℕ, List};
+ghost use Rattle.sei_fault.specs.Tree.{Runs};
+ghost use Rattle.sei_traverse.specs.Walks.{Stays};
+ghost use Rattle.sei_traverse.specs.Acts.{acted};
+ghost use Rattle.sei_traverse.specs.Phases.{enter_tree, give_tree, send_want, send_tree, done_tree};
+
+use crate::turned::Want;
+use crate::walk::{Ending, Walk};
+use sei_fault::{Core, Phase, Place};
+
+/// What is wanted for a reply: one that is empty is not sent.
+fn send_want(reply: &[u8]) -> Want
+    ensures { result ≡ send_want reply.now }
+{
+    if reply.is_empty() {
+        Want::Nothing
+    } else {
+        Want::Send
+    }
+}
+
+impl Walk {
+    /// Enter.
+    pub fn enter<K: Core>(&mut self, core: &mut K) -> Ending
+        ensures act { (words : List ℕ) → Runs K.gives (enter_tree self.old words) core.old core.new (acted self.new words result) }
+        ensures stays { Stays self.old self.new }
+        ensures place { self.new.place ≡ self.old.place }
+    {
+        self.close(
+            Phase::Enter,
+            Want::Enter,
+            Place {
+                phase: Phase::Give,
+                index: 0,
+            },
+            core,
+        )
+    }
+
+    /// Give.
+    pub fn give<K: Core>(&mut self, core: &mut K) -> Ending
+        ensures act { (words : List ℕ) → Runs K.gives (give_tree self.old words) core.old core.new (acted self.new words result) }
+        ensures stays { Stays self.old self.new }
+        ensures place { self.new.place ≡ self.old.place }
+    {
+        self.close(
+            Phase::Give,
+            Want::Give,
+            Place {
+                phase: Phase::Send,
+                index: 0,
+            },
+            core,
+        )
+    }
+
+    /// Send.
+    pub fn send<K: Core>(&mut self, core: &mut K) -> Ending
+        ensures act { (words : List ℕ) → Runs K.gives (send_tree self.old words) core.old core.new (acted self.new words result) }
+        ensures stays { Stays self.old self.new }
+        ensures place { self.new.place ≡ self.old.place }
+    {
+        let want = send_want(self.second.bytes());
+        self.close(
+            Phase::Send,
+            want,
+            Place {
+                phase: Phase::Done,
+                index: 0,
+            },
+            core,
+        )
+    }
+
+    /// Done.
+    pub fn finish<K: Core>(&mut self, core: &mut K) -> Ending
+        ensures act { (words : List ℕ) → Runs K.gives (done_tree self.old words) core.old core.new (acted self.new words result) }
+        ensures stays { Stays self.old self.new }
+        ensures place { self.new.place ≡ self.old.place }
+    {
+        self.close(
+            Phase::Done,
+            Want::Nothing,
+            Place {
+                phase: Phase::Done,
+                index: 1,
+            },
+            core,
+        )
+    }
+}

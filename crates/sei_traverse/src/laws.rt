@@ -1,0 +1,43 @@
+//! Laws of the definitions, each the clause of a function that does nothing.
+ghost use Rattle.std.specs.Prelude.{◌≡◌, ℕ, ◌+◌, ◌*◌, ◌≤◌, List, Option, Some, None};
+ghost use Rattle.sei_fault.specs.Counts.{Counts};
+ghost use Rattle.sei_fault.specs.declared.place.Phase.{Phase};
+ghost use Rattle.sei_pass.specs.State.{budget_of};
+ghost use Rattle.sei_traverse.specs.Errand.{Errand, IsErrand};
+ghost use Rattle.sei_traverse.specs.OnWay.{OnWay, AtEnd};
+ghost use Rattle.sei_traverse.specs.Served.{IsServed, HasReply};
+ghost use Rattle.sei_traverse.specs.State.{TraversalState, begun};
+ghost use Rattle.sei_traverse.specs.Walks.{log_room};
+
+/// A traversal that begins for an errand is on its way. It stays so where the words that were taken
+/// are lent when they are wanted, and where they are lent no more once the bucket is given back.
+pub fn traversals_are_on_their_way()
+    ensures begins { (e : Errand) (c : Counts) → OnWay e (begun e.geometry e.sealed) None c c }
+    ensures lends { (e : Errand) (t : TraversalState) (begin now : Counts) → IsErrand e → t.walk.place.phase ≡ Phase.First →
+        OnWay e t None begin now → OnWay e t (Some e.taken) begin now }
+    ensures gives { (e : Errand) (t : TraversalState) (words : List ℕ) (begin now : Counts) → t.walk.place.phase ≡ Phase.Send →
+        OnWay e t (Some words) begin now → OnWay e t None begin now }
+{}
+
+/// Without a strike a traversal comes to its end: it makes no more steps than this.
+pub fn traversals_end()
+    ensures running { (e : Errand) (t : TraversalState) (lent : Option (List ℕ)) (begin now : Counts) → IsErrand e → OnWay e t lent begin now → now.struck ≡ begin.struck →
+        t.steps ≤ 2 * budget_of e.geometry + 3 * log_room e.geometry + 11 }
+    ensures ended { (e : Errand) (t : TraversalState) (begin now : Counts) → AtEnd e t begin now → now.struck ≡ begin.struck →
+        t.steps ≤ 2 * budget_of e.geometry + 3 * log_room e.geometry + 11 }
+{}
+
+/// Without a strike, from the want of Enter on, both passes were made: the words are those that an
+/// honest run leaves, the reply and the copy for the wire are its output, and at least twice as many
+/// questions were asked as it asks.
+pub fn both_passes_are_made()
+    ensures entered { (e : Errand) (t : TraversalState) (lent : Option (List ℕ)) (begin now : Counts) → t.walk.place.phase ≡ Phase.Give →
+        OnWay e t lent begin now → now.struck ≡ begin.struck → IsServed e t lent begin now }
+    ensures still { (e : Errand) (t : TraversalState) (words : List ℕ) (begin now : Counts) → t.walk.place.phase ≡ Phase.Send →
+        OnWay e t (Some words) begin now → now.struck ≡ begin.struck → IsServed e t (Some words) begin now }
+    ensures given { (e : Errand) (t : TraversalState) (lent : Option (List ℕ)) (begin now : Counts) → t.walk.place.phase ≡ Phase.Send →
+        OnWay e t lent begin now → now.struck ≡ begin.struck → HasReply e t begin now }
+    ensures sent { (e : Errand) (t : TraversalState) (lent : Option (List ℕ)) (begin now : Counts) → t.walk.place.phase ≡ Phase.Done →
+        OnWay e t lent begin now → now.struck ≡ begin.struck → HasReply e t begin now }
+    ensures finished { (e : Errand) (t : TraversalState) (begin now : Counts) → AtEnd e t begin now → now.struck ≡ begin.struck → HasReply e t begin now }
+{}

@@ -1,0 +1,21 @@
+//! The traversal of one call through all its phases.
+#![tactic(auto)]
+
+mod acting;
+mod closing;
+mod comparing;
+mod laws;
+mod opening;
+mod passing;
+mod restoring;
+mod stepping;
+#[cfg(test)]
+mod tests;
+mod traversal;
+mod turned;
+mod verifying;
+mod walk;
+
+pub use laws::{both_passes_are_made, traversals_are_on_their_way, traversals_end};
+pub use traversal::Traversal;
+pub use turned::{Abort, State, Turned, Want};

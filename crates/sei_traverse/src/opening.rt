@@ -1,0 +1,149 @@
+//! The acts before the first pass.
+ghost use Rattle.std.specs.Prelude.{◌≡◌, ℕ, List, Option};
+ghost use Rattle.mc_model.specs.declared.geometry.Geometry.{Geometry};
+ghost use Rattle.sei_code.specs.Coded.{read_of};
+ghost use Rattle.sei_fault.specs.Tree.{Runs};
+ghost use Rattle.sei_stmt.specs.Handling.{parsed_bucket};
+ghost use Rattle.sei_pass.specs.Setting.{sealed_call};
+ghost use Rattle.sei_traverse.specs.Walks.{Stays};
+ghost use Rattle.sei_traverse.specs.Acts.{acted, closing_then};
+ghost use Rattle.sei_traverse.specs.Phases.{guard_call, guard_tree, store_wanted, take_tree, take_wanted};
+ghost use Rattle.sei_traverse.specs.Service.{service_of, given_of, has_call, bucket_or_zero};
+
+use crate::turned::Want;
+use crate::walk::{Ending, Walk};
+use mc_model::Geometry;
+use sei_code::{Coded, message_code};
+use sei_fault::{AbortCause, Core, Phase, Place};
+use sei_stmt::Handler;
+
+/// Whether the input is one whole request that has this call.
+fn has_call<H: Handler>(hands: &H, input: &[u8], nth: Coded) -> bool
+    ensures { result ≡ has_call (H.call_count hands.now input.now) (read_of nth) }
+{
+    match hands.calls(input) {
+        None => false,
+        Some(calls) => match nth.read() {
+            None => false,
+            Some(nth) => nth < calls,
+        },
+    }
+}
+
+/// The bucket of this call, or 0 where the input has no such call.
+fn bucket_of_call<H: Handler>(hands: &H, input: &[u8], nth: Coded) -> u64
+    ensures { result ≡ bucket_or_zero (parsed_bucket (sealed_call (H.parsed hands.now input.now) nth)) }
+{
+    match nth.read() {
+        None => 0,
+        Some(nth) => match hands.bucket(input, nth) {
+            None => 0,
+            Some(bucket) => bucket,
+        },
+    }
+}
+
+impl Walk {
+    /// Guard.
+    pub fn guard<H: Handler, K: Core>(&mut self, hands: &H, input: &[u8], core: &mut K) -> Ending
+        ensures act { (g : Geometry) (lent : Option ℕ) (words : List ℕ) →
+            Runs K.gives (guard_tree (given_of (service_of (H.statements hands.now) (H.call_count hands.now) (H.parsed hands.now) (H.rendered hands.now)) input.now g lent) self.old words)
+            core.old core.new (acted self.new words result) }
+        ensures stays { Stays self.old self.new }
+        ensures place { self.new.place ≡ self.old.place }
+    {
+        if core.test(message_code(self.sealed.number, input) == self.sealed.code) {
+            self.guard_call(hands, input, core)
+        } else {
+            Ending::Refuses
+        }
+    }
+
+    /// Guard, behind the test of the input's code.
+    fn guard_call<H: Handler, K: Core>(&mut self, hands: &H, input: &[u8], core: &mut K) -> Ending
+        ensures act { (g : Geometry) (lent : Option ℕ) (words : List ℕ) →
+            Runs K.gives (guard_call (given_of (service_of (H.statements hands.now) (H.call_count hands.now) (H.parsed hands.now) (H.rendered hands.now)) input.now g lent) self.old words)
+            core.old core.new (acted self.new words result) }
+        ensures stays { Stays self.old self.new }
+        ensures place { self.new.place ≡ self.old.place }
+    {
+        if core.test(has_call(hands, input, self.sealed.nth)) {
+            self.close(
+                Phase::Guard,
+                Want::Nothing,
+                Place {
+                    phase: Phase::Take,
+                    index: 0,
+                },
+                core,
+            )
+        } else {
+            Ending::Refuses
+        }
+    }
+
+    /// Take 0.
+    fn want_bucket<H: Handler, K: Core>(&mut self, hands: &H, input: &[u8], core: &mut K) -> Ending
+        ensures act { (g : Geometry) (lent : Option ℕ) (words : List ℕ) →
+            Runs K.gives (store_wanted (given_of (service_of (H.statements hands.now) (H.call_count hands.now) (H.parsed hands.now) (H.rendered hands.now)) input.now g lent) self.old words)
+            core.old core.new (acted self.new words result) }
+        ensures stays { Stays self.old self.new }
+        ensures place { self.new.place ≡ self.old.place }
+    {
+        let bucket = core.value(bucket_of_call(hands, input, self.sealed.nth));
+        self.wanted = core.written(bucket);
+        Ending::Leads(Place {
+            phase: Phase::Take,
+            index: 1,
+        })
+    }
+
+    /// Take 1.
+    fn take_bucket<K: Core>(&mut self, g: &Geometry, core: &mut K) -> Ending
+        ensures act { (words : List ℕ) →
+            Runs K.gives (closing_then Phase.Take self.old words (take_wanted g.now words)) core.old core.new (acted self.new words result) }
+        ensures stays { Stays self.old self.new }
+        ensures place { self.new.place ≡ self.old.place }
+    {
+        if self.gate.complete(core, Phase::Take) {
+            if self.wanted < g.buckets {
+                self.want = Want::Take {
+                    bucket: self.wanted,
+                };
+                Ending::Leads(Place {
+                    phase: Phase::First,
+                    index: 0,
+                })
+            } else {
+                Ending::Aborts(AbortCause::Range {
+                    address: self.wanted,
+                })
+            }
+        } else {
+            Ending::Aborts(AbortCause::Gate {
+                done: self.gate.done,
+            })
+        }
+    }
+
+    /// Take.
+    pub fn take<H: Handler, K: Core>(
+        &mut self,
+        hands: &H,
+        input: &[u8],
+        g: &Geometry,
+        core: &mut K,
+    ) -> Ending
+        ensures act { (lent : Option ℕ) (words : List ℕ) →
+            Runs K.gives (take_tree (given_of (service_of (H.statements hands.now) (H.call_count hands.now) (H.parsed hands.now) (H.rendered hands.now)) input.now g.now lent) self.old.place.index self.old words)
+            core.old core.new (acted self.new words result) }
+        ensures stays { Stays self.old self.new }
+        ensures place { self.new.place ≡ self.old.place }
+    {
+        if self.place.index == 0 {
+            self.want_bucket(hands, input, core)
+        } else {
+            self.take_bucket(g, core)
+        }
+    }
+}

@@ -1,0 +1,116 @@
+//! The acts of the two passes.
+ghost use Rattle.std.specs.Prelude.{◌≡◌, ℕ, ◌≤◌, List, length};
+ghost use Rattle.sei_fault.specs.Tree.{Runs};
+ghost use Rattle.sei_stmt.specs.Handling.{parsed_words};
+ghost use Rattle.sei_words.specs.Loan.{words_of, bucket_of, place_of, IsOf};
+ghost use Rattle.sei_pass.specs.Setting.{sealed_call};
+ghost use Rattle.sei_traverse.specs.Walks.{Stays};
+ghost use Rattle.sei_traverse.specs.Acts.{acted};
+ghost use Rattle.sei_traverse.specs.PassActs.{first_tree, second_tree};
+ghost use Rattle.sei_traverse.specs.Service.{service_of, given_of};
+ghost use Rattle.sei_traverse.specs.Step.{Timed};
+
+use crate::turned::Want;
+use crate::walk::{Ending, Walk};
+use sei_fault::{Core, Phase, Place};
+use sei_outside::Clock;
+use sei_pass::{PassStep, Slots, Which};
+use sei_stmt::Handler;
+
+impl Walk {
+    /// A statement of the first pass.
+    pub fn first<H: Handler, L: Slots, K: Core, C: Clock>(
+        &mut self,
+        hands: &H,
+        input: &[u8],
+        lent: &mut L,
+        core: &mut K,
+        clock: &C,
+    ) -> Ending
+        requires room { length (parsed_words (sealed_call (H.parsed hands.now input.now) self.old.sealed.nth)) ≤ self.old.first.input.room }
+        requires lent { IsOf self.old.first.geometry (L.loan lent.old) }
+        ensures act { Timed K.gives (C.told clock.now)
+            (λ now. first_tree (given_of (service_of (H.statements hands.now) (H.call_count hands.now) (H.parsed hands.now) (H.rendered hands.now)) input.now self.old.first.geometry (bucket_of (L.loan lent.old)))
+            now self.old.place.index self.old (words_of (L.loan lent.old)))
+            core.old core.new (acted self.new (words_of (L.loan lent.new)) result) }
+        ensures lent { place_of (L.loan lent.new) ≡ place_of (L.loan lent.old) }
+        ensures stays { Stays self.old self.new }
+        ensures place { self.new.place ≡ self.old.place }
+    {
+        match self.first.step_on(
+            Which::Making,
+            hands,
+            input,
+            &self.sealed,
+            lent,
+            &mut self.first_log,
+            &mut self.notes,
+            core,
+            clock,
+            self.place.index,
+        ) {
+            PassStep::Next { index } => Ending::Leads(Place {
+                phase: Phase::First,
+                index,
+            }),
+            PassStep::Halted => self.close(
+                Phase::First,
+                Want::Nothing,
+                Place {
+                    phase: Phase::Restore,
+                    index: 0,
+                },
+                core,
+            ),
+            PassStep::Bad(cause) => Ending::Aborts(cause),
+        }
+    }
+
+    /// A statement of the second pass.
+    pub fn second<H: Handler, L: Slots, K: Core, C: Clock>(
+        &mut self,
+        hands: &H,
+        input: &[u8],
+        lent: &mut L,
+        core: &mut K,
+        clock: &C,
+    ) -> Ending
+        requires room { length (parsed_words (sealed_call (H.parsed hands.now input.now) self.old.sealed.nth)) ≤ self.old.second.input.room }
+        requires lent { IsOf self.old.second.geometry (L.loan lent.old) }
+        ensures act { Timed K.gives (C.told clock.now)
+            (λ now. second_tree (given_of (service_of (H.statements hands.now) (H.call_count hands.now) (H.parsed hands.now) (H.rendered hands.now)) input.now self.old.second.geometry (bucket_of (L.loan lent.old)))
+            now self.old.place.index self.old (words_of (L.loan lent.old)))
+            core.old core.new (acted self.new (words_of (L.loan lent.new)) result) }
+        ensures lent { place_of (L.loan lent.new) ≡ place_of (L.loan lent.old) }
+        ensures stays { Stays self.old self.new }
+        ensures place { self.new.place ≡ self.old.place }
+    {
+        match self.second.step_on(
+            Which::Reading,
+            hands,
+            input,
+            &self.sealed,
+            lent,
+            &mut self.second_log,
+            &mut self.notes,
+            core,
+            clock,
+            self.place.index,
+        ) {
+            PassStep::Next { index } => Ending::Leads(Place {
+                phase: Phase::Second,
+                index,
+            }),
+            PassStep::Halted => self.close(
+                Phase::Second,
+                Want::Nothing,
+                Place {
+                    phase: Phase::Compare,
+                    index: 0,
+                },
+                core,
+            ),
+            PassStep::Bad(cause) => Ending::Aborts(cause),
+        }
+    }
+}

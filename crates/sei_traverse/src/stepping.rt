@@ -1,0 +1,293 @@
+//! One step of a traversal.
+ghost use Rattle.std.specs.Prelude.{◌≡◌, ℕ, ◌+◌, ◌<◌, ◌≤◌, ◌^◌, IfSome, List, Some, length};
+ghost use Rattle.sei_fault.specs.Tree.{Runs, bound};
+ghost use Rattle.sei_stmt.specs.Handling.{parsed_words};
+ghost use Rattle.sei_words.specs.Loan.{words_of, bucket_of, place_of, IsOf};
+ghost use Rattle.sei_pass.specs.Setting.{sealed_call};
+ghost use Rattle.sei_pass.specs.State.{input_room};
+ghost use Rattle.sei_traverse.specs.Acts.{acted};
+ghost use Rattle.sei_traverse.specs.PassActs.{first_tree};
+ghost use Rattle.sei_traverse.specs.Service.{service_of, given_of};
+ghost use Rattle.sei_traverse.specs.Step.{site_of, next_phase, is_halt, is_last, skipped, turn, arrival, is_end, plain_below, goes, goes_from, once, act_tree, twice, turn_at, turn_tree, Timed, TimedTwice};
+ghost use Rattle.sei_traverse.specs.Walks.{IsWalk, Stays};
+
+use crate::turned::{Abort, State, Want};
+use crate::walk::{Ending, Walk};
+use mc_model::Geometry;
+use sei_fault::{AbortCause, Act, Core, Phase, Place, Site, Times};
+use sei_outside::Clock;
+use sei_pass::Slots;
+use sei_stmt::Handler;
+
+/// The phase behind this one; behind the last one there is none.
+fn next_phase(phase: Phase) -> Phase
+    ensures { result ≡ next_phase phase }
+{
+    match phase {
+        Phase::Guard => Phase::Take,
+        Phase::Take => Phase::First,
+        Phase::First => Phase::Restore,
+        Phase::Restore => Phase::Second,
+        Phase::Second => Phase::Compare,
+        Phase::Compare => Phase::Verify,
+        Phase::Verify => Phase::Enter,
+        Phase::Enter => Phase::Give,
+        Phase::Give => Phase::Send,
+        Phase::Send | Phase::Done => Phase::Done,
+    }
+}
+
+fn is_halt(act: Act) -> bool
+    ensures { result ≡ is_halt act }
+{
+    match act {
+        Act::Halt => true,
+        Act::Plain | Act::Load(_) | Act::Store(_) => false,
+        Act::Now | Act::Alloc | Act::Parse | Act::Render => false,
+    }
+}
+
+/// Whether a place is the end of a traversal.
+fn is_end(place: Place) -> bool
+    ensures { result ≡ is_end place }
+{
+    place.phase.number() == 10 && place.index == 1
+}
+
+/// How a step ends that arrives at this place, with so many closed phases.
+fn arrive(phase: Phase, place: Place, done: u64) -> State
+    ensures { result ≡ arrival phase place done }
+{
+    if is_end(place) {
+        if done == 11 {
+            State::Finished
+        } else {
+            State::Aborted(Abort {
+                phase,
+                cause: AbortCause::Gate { done },
+            })
+        }
+    } else {
+        State::Went
+    }
+}
+
+/// Another step than one of a pass, where its phase has it.
+fn plain_below(steps: u64, index: u64) -> Option<Act>
+    ensures act { result ≡ plain_below steps index }
+    ensures below { IfSome result (λ _. index < steps) }
+{
+    if index < steps {
+        Some(Act::Plain)
+    } else {
+        None
+    }
+}
+
+impl Walk {
+    /// What the step at this place is told as, or `None` where the place is no step of its phase.
+    fn site<H: Handler>(&self, hands: &H) -> Option<Act>
+        requires { IsWalk self.now }
+        ensures act { (calls : _) (parsed : _) (rendered : _) → result ≡ site_of (service_of (H.statements hands.now) calls parsed rendered) self.now }
+        ensures below { IfSome result (λ _. self.now.place.index + 1 < 2 ^ 64) }
+    {
+        let index = self.place.index;
+        match self.place.phase {
+            Phase::First => self.first.act(hands, index),
+            Phase::Second => self.second.act(hands, index),
+            Phase::Take => plain_below(2, index),
+            Phase::Restore => plain_below(self.first_log.len() + 1, index),
+            Phase::Compare => plain_below(self.compared() + 1, index),
+            Phase::Verify => plain_below(self.second_log.len() + 2, index),
+            Phase::Guard | Phase::Enter | Phase::Give | Phase::Send | Phase::Done => {
+                plain_below(1, index)
+            }
+        }
+    }
+
+    /// Whether no further step of the phase comes behind this one, which is told as `act`.
+    fn is_last(&self, act: Act) -> bool
+        requires { IsWalk self.now }
+        ensures { result ≡ is_last self.now self.now.place.phase self.now.place.index act }
+    {
+        let index = self.place.index;
+        match self.place.phase {
+            Phase::Take => index == 1,
+            Phase::First | Phase::Second => is_halt(act),
+            Phase::Restore => index == self.first_log.len(),
+            Phase::Compare => index == self.compared(),
+            Phase::Verify => index == self.second_log.len() + 1,
+            Phase::Guard | Phase::Enter | Phase::Give | Phase::Send => true,
+            Phase::Done => false,
+        }
+    }
+
+    /// Where a step goes on whose act was left out.
+    fn skipped(&self, act: Act) -> Place
+        requires walk { IsWalk self.now }
+        requires index { self.now.place.index + 1 < 2 ^ 64 }
+        ensures { result ≡ skipped self.now act }
+    {
+        let phase = self.place.phase;
+        if self.is_last(act) {
+            Place {
+                phase: next_phase(phase),
+                index: 0,
+            }
+        } else {
+            Place {
+                phase,
+                index: self.place.index + 1,
+            }
+        }
+    }
+
+    /// Asks where to go on, and goes there.
+    fn go<K: Core>(&mut self, to: Place, core: &mut K) -> State
+        ensures gone { (words : List ℕ) → Runs K.gives (goes self.old words to) core.old core.new (turn self.new words result) }
+        ensures stays { Stays self.old self.new }
+    {
+        let phase = self.place.phase;
+        self.place = core.next(to);
+        arrive(phase, self.place, self.gate.done)
+    }
+
+    /// Goes on behind an act, unless that ended the traversal.
+    fn go_on<K: Core>(&mut self, ending: Ending, core: &mut K) -> State
+        ensures gone { (words : List ℕ) → Runs K.gives (goes_from self.old words ending) core.old core.new (turn self.new words result) }
+        ensures stays { Stays self.old self.new }
+    {
+        match ending {
+            Ending::Leads(to) => self.go(to, core),
+            Ending::Refuses => State::Refused,
+            Ending::Aborts(cause) => State::Aborted(Abort {
+                phase: self.place.phase,
+                cause,
+            }),
+        }
+    }
+
+    /// Does the act of the step, and goes on.
+    fn once<H: Handler, L: Slots, K: Core, C: Clock>(
+        &mut self,
+        hands: &H,
+        input: &[u8],
+        g: &Geometry,
+        lent: &mut L,
+        core: &mut K,
+        clock: &C,
+    ) -> State
+        requires walk { IsWalk self.old }
+        requires geometry { self.old.first.geometry ≡ g.now }
+        requires room { length (parsed_words (sealed_call (H.parsed hands.now input.now) self.old.sealed.nth)) ≤ input_room g.now }
+        requires index { self.old.place.index + 1 < 2 ^ 64 }
+        requires lent { IsOf g.now (L.loan lent.old) }
+        ensures once { Timed K.gives (C.told clock.now)
+            (λ now. once (given_of (service_of (H.statements hands.now) (H.call_count hands.now) (H.parsed hands.now) (H.rendered hands.now)) input.now g.now (bucket_of (L.loan lent.old))) now self.old (words_of (L.loan lent.old)))
+            core.old core.new (turn self.new (words_of (L.loan lent.new)) result) }
+        ensures lent { place_of (L.loan lent.new) ≡ place_of (L.loan lent.old) }
+        ensures stays { Stays self.old self.new }
+    {
+        let ending = self.act(hands, input, g, lent, core, clock);
+        self.go_on(ending, core)
+    }
+
+    /// Does the act of the step two times, unless the first one ended the traversal.
+    fn twice<H: Handler, L: Slots, K: Core, C: Clock>(
+        &mut self,
+        hands: &H,
+        input: &[u8],
+        g: &Geometry,
+        lent: &mut L,
+        core: &mut K,
+        clock: &C,
+    ) -> State
+        requires walk { IsWalk self.old }
+        requires geometry { self.old.first.geometry ≡ g.now }
+        requires room { length (parsed_words (sealed_call (H.parsed hands.now input.now) self.old.sealed.nth)) ≤ input_room g.now }
+        requires index { self.old.place.index + 1 < 2 ^ 64 }
+        requires lent { IsOf g.now (L.loan lent.old) }
+        ensures twice { TimedTwice K.gives (C.told clock.now)
+            (λ now later. bound (act_tree (given_of (service_of (H.statements hands.now) (H.call_count hands.now) (H.parsed hands.now) (H.rendered hands.now)) input.now g.now (bucket_of (L.loan lent.old))) now self.old (words_of (L.loan lent.old))) (twice (given_of (service_of (H.statements hands.now) (H.call_count hands.now) (H.parsed hands.now) (H.rendered hands.now)) input.now g.now (bucket_of (L.loan lent.old))) later))
+            core.old core.new (turn self.new (words_of (L.loan lent.new)) result) }
+        ensures lent { place_of (L.loan lent.new) ≡ place_of (L.loan lent.old) }
+        ensures stays { Stays self.old self.new }
+    {
+        match self.act(hands, input, g, lent, core, clock) {
+            Ending::Leads(_) => self.once(hands, input, g, lent, core, clock),
+            Ending::Refuses => State::Refused,
+            Ending::Aborts(cause) => State::Aborted(Abort {
+                phase: self.place.phase,
+                cause,
+            }),
+        }
+    }
+
+    /// Asks how often the act of the step is to be done, does it, and goes on.
+    fn turn<H: Handler, L: Slots, K: Core, C: Clock>(
+        &mut self,
+        act: Act,
+        hands: &H,
+        input: &[u8],
+        g: &Geometry,
+        lent: &mut L,
+        core: &mut K,
+        clock: &C,
+    ) -> State
+        requires walk { IsWalk self.old }
+        requires geometry { self.old.first.geometry ≡ g.now }
+        requires room { length (parsed_words (sealed_call (H.parsed hands.now input.now) self.old.sealed.nth)) ≤ input_room g.now }
+        requires index { self.old.place.index + 1 < 2 ^ 64 }
+        requires lent { IsOf g.now (L.loan lent.old) }
+        ensures turned { TimedTwice K.gives (C.told clock.now)
+            (λ now later. turn_at (given_of (service_of (H.statements hands.now) (H.call_count hands.now) (H.parsed hands.now) (H.rendered hands.now)) input.now g.now (bucket_of (L.loan lent.old))) now later self.old (words_of (L.loan lent.old)) (Some act))
+            core.old core.new (turn self.new (words_of (L.loan lent.new)) result) }
+        ensures lent { place_of (L.loan lent.new) ≡ place_of (L.loan lent.old) }
+        ensures stays { Stays self.old self.new }
+    {
+        let site = Site {
+            place: self.place,
+            act,
+        };
+        match core.times(site) {
+            Times::Once => self.once(hands, input, g, lent, core, clock),
+            Times::Skip => {
+                let to = self.skipped(act);
+                self.go(to, core)
+            }
+            Times::Twice => self.twice(hands, input, g, lent, core, clock),
+        }
+    }
+
+    /// Makes the step at this place.
+    pub fn step<H: Handler, L: Slots, K: Core, C: Clock>(
+        &mut self,
+        hands: &H,
+        input: &[u8],
+        g: &Geometry,
+        lent: &mut L,
+        core: &mut K,
+        clock: &C,
+    ) -> State
+        requires walk { IsWalk self.old }
+        requires geometry { self.old.first.geometry ≡ g.now }
+        requires room { length (parsed_words (sealed_call (H.parsed hands.now input.now) self.old.sealed.nth)) ≤ input_room g.now }
+        requires lent { IsOf g.now (L.loan lent.old) }
+        ensures turned { TimedTwice K.gives (C.told clock.now)
+            (λ now later. turn_tree (given_of (service_of (H.statements hands.now) (H.call_count hands.now) (H.parsed hands.now) (H.rendered hands.now)) input.now g.now (bucket_of (L.loan lent.old))) now later self.old (words_of (L.loan lent.old)))
+            core.old core.new (turn self.new (words_of (L.loan lent.new)) result) }
+        ensures lent { place_of (L.loan lent.new) ≡ place_of (L.loan lent.old) }
+        ensures stays { Stays self.old self.new }
+    {
+        self.want = Want::Nothing;
+        match self.site(hands) {
+            None => State::Aborted(Abort {
+                phase: self.place.phase,
+                cause: AbortCause::Table {
+                    index: self.place.index,
+                },
+            }),
+            Some(act) => self.turn(act, hands, input, g, lent, core, clock),
+        }
+    }
+}

@@ -1,0 +1,485 @@
+//! Traversals over a small table, with the plain core or with one strike, and a clock that is set.
+ghost use Rattle.std.specs.Prelude.{◌≡◌, true, false};
+ghost use Rattle.std.specs.Bool.{OnTrue, OnFalse};
+ghost use Rattle.sei_fault.specs.Counts.{counted};
+ghost use Rattle.sei_traverse.specs.State.{goes_on};
+
+use super::*;
+use mc_model::Geometry;
+use sei_code::{Buffer, Coded, Mode, Rendered, WordList, message_code};
+use sei_fault::{AbortCause, Core, Phase, Place, PlainCore, Site, Times};
+use sei_outside::SetClock;
+use sei_pass::Sealed;
+use sei_stmt::{Handler, Stmt, Table};
+use sei_words::Words;
+use std::alloc::Global;
+use std::test::Fail;
+
+const SMALL: Geometry = Geometry {
+    buckets: 1,
+    slots: 1,
+    value_words: 3,
+};
+
+/// Reads each input as one call of bucket 0 with the one input word 7, and answers `A`, or nothing
+/// where it is silent.
+#[derive(Drop)]
+struct Service {
+    table: Table,
+    silent: bool,
+}
+
+impl Handler for Service {
+    ghost use Rattle.std.specs.Prelude.{[], ◌∷◌, Some, if◌then◌else◌};
+
+    ghost statements = { λ s. s.table };
+
+    ghost call_count = { λ _ _. Some 1 };
+
+    ghost parsed = { λ _ _ _. Some (record { bucket = 0; words = 7 ∷ [] }) };
+
+    ghost rendered = { λ s _. Some (if s.silent then [] else 65 ∷ []) };
+
+    fn calls(&self, _input: &[u8]) -> Option<u64> {
+        Some(1)
+    }
+
+    fn bucket(&self, _input: &[u8], _nth: u64) -> Option<u64> {
+        Some(0)
+    }
+
+    fn parse(&self, _input: &[u8], _nth: u64, into: &mut WordList) -> Option<u64> {
+        into.clear();
+        into.push(7);
+        Some(0)
+    }
+
+    fn table(&self) -> &Table {
+        &self.table
+    }
+
+    fn render(&self, _words: &[u64], into: &mut Buffer) -> Rendered {
+        into.clear();
+        if self.silent || into.push(b'A') {
+            Rendered::Done
+        } else {
+            Rendered::Full
+        }
+    }
+}
+
+/// Stores the time into word 0, and emits it.
+fn serving(alloc: Global, silent: bool) -> Result<Service, Fail> {
+    let mut list = Vec::new(alloc);
+    list.extend_from_slice(&[
+        Stmt::Parse,
+        Stmt::Now { to: 3 },
+        Stmt::Const { to: 1, number: 0 },
+        Stmt::Store {
+            address: 1,
+            from: 3,
+        },
+        Stmt::Emit { from: 3 },
+        Stmt::Render,
+        Stmt::Halt,
+    ])?;
+    let table = Table::new(list)?;
+    Ok(Service { table, silent })
+}
+
+/// A call of the input `x` as message 2, whose reply is message 5.
+fn sealed(input: &[u8], nth: Coded) -> Sealed {
+    Sealed {
+        number: 2,
+        nth,
+        code: message_code(2, input),
+        answer: 5,
+    }
+}
+
+/// What a strike does.
+#[derive(Clone, Copy, Debug, PartialEq, Eq)]
+enum Strike {
+    /// It leaves the act out.
+    Skips,
+    /// It negates a test.
+    Negates,
+    /// It stores another word.
+    Writes,
+}
+
+/// Strikes once: at the first question of one kind at one place.
+#[derive(Drop)]
+struct Striking {
+    place: Place,
+    strike: Strike,
+    /// Whether this is the place.
+    here: bool,
+    fell: bool,
+    asked: u128,
+}
+
+impl Striking {
+    fn new(strike: Strike, phase: Phase, index: u64) -> Striking {
+        Striking {
+            place: Place { phase, index },
+            strike,
+            here: false,
+            fell: false,
+            asked: 0,
+        }
+    }
+
+    /// Counts one question of this kind, and answers whether the strike falls with it.
+    fn falls(&mut self, strike: Strike) -> bool
+        ensures asked { self.new.asked ≡ counted self.old.asked }
+        ensures before { OnTrue result (self.old.fell ≡ false) }
+        ensures struck { OnTrue result (self.new.fell ≡ true) }
+        ensures honest { OnFalse result (self.new.fell ≡ self.old.fell) }
+    {
+        self.asked = self.asked.saturating_add(1);
+        let falls = self.here && strike == self.strike && !self.fell;
+        if falls {
+            self.fell = true;
+        }
+        falls
+    }
+}
+
+impl Core for Striking {
+    ghost use Rattle.std.specs.Prelude.{◌≡◌, None, if◌then◌else◌};
+    ghost use Rattle.sei_fault.specs.Counts.{Answered};
+    ghost use Rattle.sei_fault.specs.Question.{honestly_to};
+
+    ghost counts = { λ c. record { asked = c.asked; struck = if c.fell then 1 else 0; room = None } };
+
+    ghost gives = { λ s q a t. Answered (a ≡ honestly_to q)
+        (record { asked = s.asked; struck = if s.fell then 1 else 0; room = None })
+        (record { asked = t.asked; struck = if t.fell then 1 else 0; room = None }) };
+
+    fn value(&mut self, honest: u64) -> u64 {
+        self.asked = self.asked.saturating_add(1);
+        honest
+    }
+
+    fn written(&mut self, honest: u64) -> u64 {
+        if self.falls(Strike::Writes) {
+            honest ^ 1
+        } else {
+            honest
+        }
+    }
+
+    fn test(&mut self, honest: bool) -> bool {
+        if self.falls(Strike::Negates) {
+            !honest
+        } else {
+            honest
+        }
+    }
+
+    fn times(&mut self, site: Site) -> Times {
+        self.here = site.place == self.place;
+        if self.falls(Strike::Skips) {
+            Times::Skip
+        } else {
+            Times::Once
+        }
+    }
+
+    fn next(&mut self, honest: Place) -> Place {
+        self.asked = self.asked.saturating_add(1);
+        honest
+    }
+
+    ghost lawful = { λ s q a t given. given };
+}
+
+/// One step for the input `x` at second 1000, with the words lent or not.
+fn turn<K: Core>(
+    traversal: &mut Traversal,
+    service: &Service,
+    words: &mut Words,
+    lent: bool,
+    core: &mut K,
+) -> Turned
+    requires running { traversal.old.running ≡ true }
+    requires laid_out { words.old.geometry ≡ traversal.old.geometry }
+    ensures running { traversal.new.running ≡ goes_on result.state }
+    ensures laid_out { words.new.geometry ≡ traversal.new.geometry }
+{
+    let clock = SetClock { at: 1000 };
+    if lent {
+        traversal.step(service, b"x", Some(words), core, &clock)
+    } else {
+        traversal.step(service, b"x", None, core, &clock)
+    }
+}
+
+/// How a traversal went: its wants in their order, and how it ended.
+#[derive(Drop)]
+struct Way {
+    wants: Vec<Want>,
+    state: State,
+}
+
+/// Serves the sealed call until it ends. The words are lent from the want of `Take` to that of
+/// `Give`, where `lends`.
+fn serve<K: Core>(
+    alloc: Global,
+    traversal: &mut Traversal,
+    service: &Service,
+    sealed: Sealed,
+    words: &mut Words,
+    lends: bool,
+    core: &mut K,
+) -> Result<Way, Fail>
+    requires { words.old.geometry ≡ traversal.old.geometry }
+{
+    traversal.begin(sealed, Mode::Plain);
+    let mut wants = Vec::new(alloc);
+    let mut lent = false;
+    for _ in 0..100 {
+        let turned = turn(traversal, service, words, lent, core);
+        match turned.want {
+            Want::Take { .. } => lent = lends,
+            Want::Give => lent = false,
+            Want::Nothing | Want::Enter | Want::Send => {}
+        }
+        if turned.want != Want::Nothing {
+            wants.push(turned.want)?;
+        }
+        match turned.state {
+            State::Went => {}
+            state => return Ok(Way { wants, state }),
+        }
+    }
+    Err(Fail::new("it does not end"))
+}
+
+/// What a traversal shows.
+#[derive(Clone, Debug, PartialEq, Eq, Drop)]
+struct Shown {
+    place: Place,
+    gate: u64,
+    steps: u64,
+    wanted: u64,
+    now: Option<u64>,
+    reply: Vec<u8>,
+    wire: Vec<u8>,
+}
+
+fn show(alloc: Global, traversal: &Traversal) -> Result<Shown, Fail> {
+    Ok(Shown {
+        place: traversal.place(),
+        gate: traversal.gate(),
+        steps: traversal.steps(),
+        wanted: traversal.wanted(),
+        now: traversal.now(),
+        reply: traversal.reply().to_vec(alloc)?,
+        wire: traversal.wire().to_vec(alloc)?,
+    })
+}
+
+/// Begins once more.
+fn show_again(alloc: Global, traversal: &mut Traversal, call: Sealed) -> Result<Shown, Fail> {
+    traversal.begin(call, Mode::Plain);
+    show(alloc, traversal)
+}
+
+/// What came of a call.
+#[derive(Drop)]
+struct Served {
+    way: Way,
+    shown: Shown,
+    /// Word 0 of the bucket.
+    word: Option<u64>,
+    /// What is shown behind a further begin.
+    again: Shown,
+}
+
+fn serve_and_show<K: Core>(
+    alloc: Global,
+    traversal: &mut Traversal,
+    service: &Service,
+    call: Sealed,
+    words: &mut Words,
+    lends: bool,
+    core: &mut K,
+) -> Result<Served, Fail>
+    requires { words.old.geometry ≡ traversal.old.geometry }
+{
+    let way = serve(alloc, traversal, service, call, words, lends, core)?;
+    let shown = show(alloc, traversal)?;
+    let again = show_again(alloc, traversal, call)?;
+    let word = words.get(0);
+    Ok(Served {
+        way,
+        shown,
+        word,
+        again,
+    })
+}
+
+fn outcome<K: Core>(
+    alloc: Global,
+    silent: bool,
+    call: Sealed,
+    lends: bool,
+    core: &mut K,
+) -> Result<Served, Fail> {
+    let service = serving(alloc, silent)?;
+    let mut traversal = Traversal::new(alloc, &SMALL)?;
+    let mut words = Words::new(alloc, &SMALL, 0)?;
+    serve_and_show(
+        alloc,
+        &mut traversal,
+        &service,
+        call,
+        &mut words,
+        lends,
+        core,
+    )
+}
+
+const START: Place = Place {
+    phase: Phase::Guard,
+    index: 0,
+};
+
+const END: Place = Place {
+    phase: Phase::Done,
+    index: 1,
+};
+
+/// The steps are 1 of Guard, 2 of Take, 7 of each pass, 2 of Restore, 2 of Compare, 3 of Verify,
+/// and 4 behind it.
+#[test]
+fn a_call_goes_through_all_phases(rt: HostRuntime) -> Result<(), Fail> {
+    let alloc = rt.alloc();
+    let mut core = PlainCore::new();
+    let call = sealed(b"x", Coded::seal(0));
+    let served = outcome(alloc, false, call, true, &mut core)?;
+    assert_eq!(rt;
+        served.way.wants.as_slice(),
+        [
+            Want::Take { bucket: 0 },
+            Want::Enter,
+            Want::Give,
+            Want::Send
+        ]
+        .as_slice()
+    );
+    assert_eq!(rt; served.way.state, State::Finished);
+    assert_eq!(rt;
+        served.shown,
+        Shown {
+            place: END,
+            gate: 11,
+            steps: 28,
+            wanted: 0,
+            now: Some(1000),
+            reply: b"A".to_vec(alloc)?,
+            wire: b"A".to_vec(alloc)?,
+        }
+    );
+    assert_eq!(rt; served.word, Some(1000));
+    assert_eq!(rt;
+        served.again,
+        Shown {
+            place: START,
+            gate: 0,
+            steps: 0,
+            wanted: 0,
+            now: None,
+            reply: Vec::new(alloc),
+            wire: Vec::new(alloc),
+        }
+    );
+    Ok(())
+}
+
+#[test]
+fn another_input_or_call_is_refused(rt: HostRuntime) -> Result<(), Fail> {
+    let alloc = rt.alloc();
+    let unreadable = Coded { value: 0, check: 0 };
+    for call in [
+        sealed(b"y", Coded::seal(0)),
+        sealed(b"x", Coded::seal(1)),
+        sealed(b"x", unreadable),
+    ] {
+        let mut core = PlainCore::new();
+        let served = outcome(alloc, false, call, true, &mut core)?;
+        assert!(rt; served.way.wants.is_empty());
+        assert_eq!(rt; served.way.state, State::Refused);
+        assert_eq!(rt; served.shown.place, START);
+        assert_eq!(rt; served.shown.gate, 0);
+        assert_eq!(rt; served.shown.steps, 1);
+    }
+    Ok(())
+}
+
+/// A skipped `Halt` leaves the second pass open, which Compare finds; a closing test that is
+/// negated is found at once, and a word that was stored wrongly when it is read back.
+#[test]
+fn a_strike_aborts(rt: HostRuntime) -> Result<(), Fail> {
+    let alloc = rt.alloc();
+    let call = sealed(b"x", Coded::seal(0));
+    for (mut core, phase, cause) in [
+        (
+            Striking::new(Strike::Skips, Phase::Second, 6),
+            Phase::Compare,
+            AbortCause::Gate { done: 4 },
+        ),
+        (
+            Striking::new(Strike::Negates, Phase::Enter, 0),
+            Phase::Enter,
+            AbortCause::Gate { done: 7 },
+        ),
+        (
+            Striking::new(Strike::Writes, Phase::Second, 3),
+            Phase::Verify,
+            AbortCause::Differs { index: 0 },
+        ),
+    ] {
+        let served = outcome(alloc, false, call, true, &mut core)?;
+        assert_eq!(rt;
+            served.way.wants.as_slice(),
+            [Want::Take { bucket: 0 }].as_slice()
+        );
+        assert_eq!(rt; served.way.state, State::Aborted(Abort { phase, cause }));
+        assert!(rt; core.fell);
+    }
+    Ok(())
+}
+
+#[test]
+fn a_call_without_its_bucket_aborts(rt: HostRuntime) -> Result<(), Fail> {
+    let mut core = PlainCore::new();
+    let call = sealed(b"x", Coded::seal(0));
+    let served = outcome(rt.alloc(), false, call, false, &mut core)?;
+    assert_eq!(rt;
+        served.way.wants.as_slice(),
+        [Want::Take { bucket: 0 }].as_slice()
+    );
+    let abort = Abort {
+        phase: Phase::First,
+        cause: AbortCause::Bucket,
+    };
+    assert_eq!(rt; served.way.state, State::Aborted(abort));
+    Ok(())
+}
+
+#[test]
+fn an_empty_reply_is_not_sent(rt: HostRuntime) -> Result<(), Fail> {
+    let mut core = PlainCore::new();
+    let call = sealed(b"x", Coded::seal(0));
+    let served = outcome(rt.alloc(), true, call, true, &mut core)?;
+    assert_eq!(rt;
+        served.way.wants.as_slice(),
+        [Want::Take { bucket: 0 }, Want::Enter, Want::Give].as_slice()
+    );
+    assert_eq!(rt; served.way.state, State::Finished);
+    assert!(rt; served.shown.wire.is_empty());
+    Ok(())
+}

@@ -1,0 +1,277 @@
+//! A traversal.
+ghost use Rattle.std.specs.Prelude.{◌≡◌, ℕ, ◌≤◌, IfOk, length, true, None};
+ghost use Rattle.mc_model.specs.Server.{IsValid};
+ghost use Rattle.sei_code.specs.declared.modes.Mode.{Mode};
+ghost use Rattle.sei_fault.specs.Counts.{Counts};
+ghost use Rattle.sei_stmt.specs.Handling.{parsed_words};
+ghost use Rattle.sei_words.specs.Exits.{lent_at, lent_left};
+ghost use Rattle.sei_words.specs.Loan.{words_of, bucket_of, place_of, IsOf};
+ghost use Rattle.sei_pass.specs.Setting.{is_intact, sealed_call};
+ghost use Rattle.sei_pass.specs.State.{input_room, bytes_room};
+ghost use Rattle.sei_traverse.specs.Errand.{Errand, IsErrand};
+ghost use Rattle.sei_traverse.specs.OnWay.{lent_words, Lends, TellsAs, OnWay, StaysOnWay, IsUnfit};
+ghost use Rattle.sei_traverse.specs.Phases.{reply_of};
+ghost use Rattle.sei_traverse.specs.Service.{service_of, given_of, has_sealed_call};
+ghost use Rattle.sei_traverse.specs.State.{IsTraversal, begun, one_more, goes_on, noted_time};
+ghost use Rattle.sei_traverse.specs.Step.{turn, turn_tree, TimedTwice};
+ghost use Rattle.sei_traverse.specs.Walks.{log_room, IsWalk, Stays};
+
+use crate::turned::{State, Turned, Want};
+use crate::walk::Walk;
+use mc_model::Geometry;
+use sei_code::{Buffer, Coded, Memory, Mode};
+use sei_fault::{Core, Phase, Place};
+use sei_gate::Gate;
+use sei_log::{Notes, WriteLog};
+use sei_outside::Clock;
+use sei_pass::{Pass, Sealed, Slots};
+use sei_stmt::Handler;
+use sei_words::{NoBucket, Words};
+use std::alloc::Global;
+use std::marker::Model;
+
+/// The notes of a traversal that has asked for nothing yet.
+const NO_NOTES: Notes = Notes {
+    now: None,
+    slot: None,
+};
+
+/// The way of one call through all phases: two passes with their logs and outputs, what the first
+/// one noted, the number of closed phases, and the copy for the wire.
+#[derive(Drop)]
+pub struct Traversal {
+    walk: Walk,
+    geometry: Geometry,
+    steps: u64,
+    running: bool,
+}
+
+impl Model for Traversal {
+    ghost use Rattle.sei_traverse.specs.State.{TraversalState, IsTraversal};
+
+    ghost Value = { TraversalState };
+
+    ghost view = { λ t. record { walk = t.walk; geometry = t.geometry; steps = t.steps; running = t.running } };
+
+    ghost invariant = { λ t. IsTraversal (record { walk = t.walk; geometry = t.geometry; steps = t.steps; running = t.running }) };
+}
+
+/// How many changes a pass may log.
+fn log_room(g: &Geometry) -> usize
+    requires { IsValid g.now }
+    ensures { result ≡ log_room g.now }
+{
+    (48 + g.slots + g.value_words) as usize
+}
+
+/// How many bytes the copy for the wire may have.
+fn wire_room(g: &Geometry) -> usize
+    requires { IsValid g.now }
+    ensures { result ≡ bytes_room g.now }
+{
+    (8 * g.value_words + 320) as usize
+}
+
+impl Traversal {
+    /// A traversal that has not begun, with the room that each call of this geometry needs. Nothing
+    /// is allocated afterwards.
+    pub fn new(alloc: Global, g: &Geometry) -> Result<Traversal, Memory>
+        requires { IsValid g.now }
+        ensures { IfOk result (λ t. t.geometry ≡ g.now) }
+    {
+        Ok(Traversal {
+            walk: Walk {
+                sealed: Sealed {
+                    number: 0,
+                    nth: Coded::seal(0),
+                    code: 0,
+                    answer: 0,
+                },
+                place: Place {
+                    phase: Phase::Guard,
+                    index: 0,
+                },
+                gate: Gate::new(),
+                wanted: 0,
+                want: Want::Nothing,
+                first: Pass::new(alloc, g)?,
+                second: Pass::new(alloc, g)?,
+                first_log: WriteLog::new(alloc, log_room(g))?,
+                second_log: WriteLog::new(alloc, log_room(g))?,
+                notes: NO_NOTES,
+                wire: Buffer::new(alloc, wire_room(g))?,
+            },
+            geometry: *g,
+            steps: 0,
+            running: false,
+        })
+    }
+
+    /// Begins, for the call that is sealed. Replies are sent as their bytes alone.
+    pub fn begin(&mut self, sealed: Sealed, mode: Mode)
+        requires plain { mode ≡ Mode.Plain }
+        ensures { self.new ≡ begun self.old.geometry sealed }
+    {
+        match mode {
+            Mode::Plain => self.begin_plain(sealed),
+            Mode::Coded => unreachable!(),
+        }
+    }
+
+    fn begin_plain(&mut self, sealed: Sealed)
+        ensures { self.new ≡ begun self.old.geometry sealed }
+    {
+        self.walk.sealed = sealed;
+        self.walk.place = Place {
+            phase: Phase::Guard,
+            index: 0,
+        };
+        self.walk.gate = Gate::new();
+        self.walk.wanted = 0;
+        self.walk.want = Want::Nothing;
+        self.walk.first.clear();
+        self.walk.second.clear();
+        self.walk.first_log.clear();
+        self.walk.second_log.clear();
+        self.walk.notes = NO_NOTES;
+        self.walk.wire.clear();
+        self.steps = 0;
+        self.running = true;
+    }
+
+    /// The place of the next step.
+    pub fn place(&self) -> Place
+        ensures { result ≡ self.now.walk.place }
+    {
+        self.walk.place
+    }
+
+    /// How many phases are closed.
+    pub fn gate(&self) -> u64
+        ensures { result ≡ self.now.walk.gate.done }
+    {
+        self.walk.gate.done
+    }
+
+    /// How many steps were made since it began. The last value stays.
+    pub fn steps(&self) -> u64
+        ensures { result ≡ self.now.steps }
+    {
+        self.steps
+    }
+
+    /// The number of the bucket that is wanted; 0 before that was stored.
+    pub fn wanted(&self) -> u64
+        ensures { result ≡ self.now.walk.wanted }
+    {
+        self.walk.wanted
+    }
+
+    /// The reply: the output bytes of the second pass.
+    pub fn reply(&self) -> &[u8]
+        ensures { result.now ≡ reply_of self.now.walk }
+    {
+        self.walk.second.bytes()
+    }
+
+    /// The copy of the reply for the wire.
+    pub fn wire(&self) -> &[u8]
+        ensures { result.now ≡ self.now.walk.wire.items }
+    {
+        self.walk.wire.bytes()
+    }
+
+    /// The time that the first pass was told and noted, where the note reads.
+    pub fn now(&self) -> Option<u64>
+        ensures { result ≡ noted_time self.now }
+    {
+        match self.walk.notes.now {
+            None => None,
+            Some(note) => note.read(),
+        }
+    }
+
+    /// Makes one step, with each of its effects asked of `core`. `lent` are the words of the bucket
+    /// that is lent, where one is.
+    pub fn step<H: Handler, K: Core, C: Clock>(
+        &mut self,
+        hands: &H,
+        input: &[u8],
+        lent: Option<&mut Words>,
+        core: &mut K,
+        clock: &C,
+    ) -> Turned
+        requires running { self.old.running ≡ true }
+        // The input words of the passes have room for what the hands make of the input.
+        requires room { length (parsed_words (sealed_call (H.parsed hands.now input.now) self.old.walk.sealed.nth)) ≤ input_room self.old.geometry }
+        // What is lent is of the traversal's geometry.
+        requires lent { IsOf self.old.geometry (lent_at lent) }
+        // The step is that of the definition, whatever the core answers.
+        ensures turned { TimedTwice K.gives (C.told clock.now)
+            (λ now later. turn_tree (given_of (service_of (H.statements hands.now) (H.call_count hands.now) (H.parsed hands.now) (H.rendered hands.now)) input.now self.old.geometry (bucket_of (lent_at lent.entry)))
+            now later self.old.walk (words_of (lent_at lent.entry)))
+            core.old core.new (turn self.new.walk (words_of (lent_left lent.exit)) result.state) }
+        ensures want { result.want ≡ self.new.walk.want }
+        ensures lent { place_of (lent_left lent.exit) ≡ place_of (lent_at lent.entry) }
+        ensures sealed { self.new.walk.sealed ≡ self.old.walk.sealed }
+        ensures geometry { self.new.geometry ≡ self.old.geometry }
+        ensures steps { self.new.steps ≡ one_more self.old.steps }
+        ensures running { self.new.running ≡ goes_on result.state }
+        // Logs, outputs and copies keep their rooms.
+        ensures rooms { IsTraversal self.new }
+        // A traversal that is on its way stays on it: it is refused or aborts only where a strike fell since it began,
+        // and otherwise stands where its definition leads, or has come to its end.
+        ensures on_way { (e : Errand) (begin : Counts) → IsErrand e → TellsAs e.clock (C.told clock.now) →
+            e.service ≡ service_of (H.statements hands.now) (H.call_count hands.now) (H.parsed hands.now) (H.rendered hands.now) → e.input ≡ input.now →
+            Lends e self.old.walk.place.phase (lent_at lent.entry) → OnWay e self.old (lent_words (lent_at lent.entry)) begin (K.counts core.old) →
+            StaysOnWay e self.old self.new (lent_words (lent_left lent.exit)) begin (K.counts core.new) result.want result.state }
+        // Without a strike an input that does not pass the tests of Guard is refused.
+        ensures refused { IsUnfit (given_of (service_of (H.statements hands.now) (H.call_count hands.now) (H.parsed hands.now) (H.rendered hands.now)) input.now self.old.geometry None) self.old.walk →
+            (K.counts core.new).struck ≡ (K.counts core.old).struck → result.state ≡ State.Refused }
+    {
+        match lent {
+            None => self.step_on(hands, input, &mut NoBucket, core, clock),
+            Some(words) => self.step_on(hands, input, words, core, clock),
+        }
+    }
+
+    /// The same step, on what is lent.
+    fn step_on<H: Handler, L: Slots, K: Core, C: Clock>(
+        &mut self,
+        hands: &H,
+        input: &[u8],
+        lent: &mut L,
+        core: &mut K,
+        clock: &C,
+    ) -> Turned
+        requires room { length (parsed_words (sealed_call (H.parsed hands.now input.now) self.old.walk.sealed.nth)) ≤ input_room self.old.geometry }
+        requires lent { IsOf self.old.geometry (L.loan lent.old) }
+        ensures turned { TimedTwice K.gives (C.told clock.now)
+            (λ now later. turn_tree (given_of (service_of (H.statements hands.now) (H.call_count hands.now) (H.parsed hands.now) (H.rendered hands.now)) input.now self.old.geometry (bucket_of (L.loan lent.old)))
+            now later self.old.walk (words_of (L.loan lent.old)))
+            core.old core.new (turn self.new.walk (words_of (L.loan lent.new)) result.state) }
+        ensures want { result.want ≡ self.new.walk.want }
+        ensures lent { place_of (L.loan lent.new) ≡ place_of (L.loan lent.old) }
+        ensures sealed { self.new.walk.sealed ≡ self.old.walk.sealed }
+        ensures geometry { self.new.geometry ≡ self.old.geometry }
+        ensures steps { self.new.steps ≡ one_more self.old.steps }
+        ensures running { self.new.running ≡ goes_on result.state }
+        ensures rooms { IsTraversal self.new }
+        ensures on_way { (e : Errand) (begin : Counts) → IsErrand e → TellsAs e.clock (C.told clock.now) →
+            e.service ≡ service_of (H.statements hands.now) (H.call_count hands.now) (H.parsed hands.now) (H.rendered hands.now) → e.input ≡ input.now →
+            Lends e self.old.walk.place.phase (L.loan lent.old) → OnWay e self.old (lent_words (L.loan lent.old)) begin (K.counts core.old) →
+            StaysOnWay e self.old self.new (lent_words (L.loan lent.new)) begin (K.counts core.new) result.want result.state }
+        ensures refused { IsUnfit (given_of (service_of (H.statements hands.now) (H.call_count hands.now) (H.parsed hands.now) (H.rendered hands.now)) input.now self.old.geometry None) self.old.walk →
+            (K.counts core.new).struck ≡ (K.counts core.old).struck → result.state ≡ State.Refused }
+    {
+        let state = self
+            .walk
+            .step(hands, input, &self.geometry, lent, core, clock);
+        self.steps = self.steps.saturating_add(1);
+        self.running = state == State::Went;
+        Turned {
+            want: self.walk.want,
+            state,
+        }
+    }
+}

@@ -1,0 +1,51 @@
+//! How a step of a traversal turns out.
+use sei_fault::{AbortCause, Phase};
+
+/// What a step wants of the caller. A want is to be met in any case, also where the same step aborts.
+#[derive(Clone, Copy, Debug, PartialEq, Eq)]
+pub enum Want {
+    /// Nothing.
+    Nothing,
+    /// That this bucket is taken, and lent from now on.
+    Take {
+        /// The number of the bucket, from 0.
+        bucket: u64,
+    },
+    /// That the call is entered into the journal, with the reply and the time.
+    Enter,
+    /// That the bucket is given back, and lent no more.
+    Give,
+    /// That the copy for the wire is sent.
+    Send,
+}
+
+/// Where and why a traversal aborted.
+#[derive(Clone, Copy, Debug, PartialEq, Eq)]
+pub struct Abort {
+    /// The phase of the step that aborted.
+    pub phase: Phase,
+    /// Why it did.
+    pub cause: AbortCause,
+}
+
+/// Whether a traversal goes on.
+#[derive(Clone, Copy, Debug, PartialEq, Eq)]
+pub enum State {
+    /// It goes on.
+    Went,
+    /// It came to its end, with all phases closed.
+    Finished,
+    /// Its input is not the sealed one, or is not one whole request with the sealed call.
+    Refused,
+    /// It aborted.
+    Aborted(Abort),
+}
+
+/// How a step turned out.
+#[derive(Clone, Copy, Debug, PartialEq, Eq)]
+pub struct Turned {
+    /// What it wants.
+    pub want: Want,
+    /// Whether the traversal goes on.
+    pub state: State,
+}
