@@ -1,4 +1,6 @@
 pub mod Bound
+pub mod Faults
 pub mod Runs
 pub mod Scripted
 pub mod Strikes
+pub mod StruckRuns

@@ -1,13 +1,14 @@
 -- How many questions were asked in a run, how many strikes fell, and where it ends.
 use Rattle.std.proofs.Common.{◌≡◌, ℕ, ◌+◌, ◌-◌, ◌^◌, ◌<◌, ◌≤◌, ◌⊎◌, inl, inr, Some, None, ap, subst, ◌∙◌, arith, refl}
 use Rattle.std.specs.declared.option.Option.{Option}
-use Rattle.sei_fault.specs.Counts.{Counts, Answered, Lowered, counted}
+use Rattle.sei_fault.specs.Counts.{Counts, Answered, Lowered, counted, IsAtMostOne}
 use Rattle.sei_fault.specs.Counts.Answered.{Honest, Struck}
-use Rattle.sei_fault.specs.Question.{honestly_to}
+use Rattle.sei_fault.specs.Question.{Question, Answer, honestly_to}
 use Rattle.sei_fault.specs.Strikes.{OneStrike, Split}
 use Rattle.sei_fault.specs.Strikes.Split.{Clean, Once, More}
 use Rattle.sei_fault.specs.Tree.{Tree, Runs, any_core, honest, questions}
 use Rattle.sei_fault.specs.Tree.Tree.{Done, Ask}
+use Rattle.sei_fault.proofs.Runs.{counted_runs}
 
 asked_on : (c m d n : ℕ) → m ≡ counted c → (d < 2 ^ 128 - 1 → d ≡ m + n) → d < 2 ^ 128 - 1 → d ≡ c + (1 + n)
 asked_on c m d n e f h = omega (arith, f h)
@@ -72,3 +73,35 @@ within_room_ask c m d r (Struck a e l) told rest =
 pub within_room : {R : Type 0} (t : Tree R) (c d : Counts) (x : R) (r : ℕ) → Runs any_core t c d x → c.room ≡ Some r → d.struck ≤ c.struck + r
 within_room (Done r) c d x n (e, f) told = omega (arith, ap (λ (y : Counts). y.struck) f)
 within_room (Ask q k) c d x n (a, m, g, r) told = within_room_ask c m d n g told (λ s h. within_room (k a) m d x s r h)
+
+room_left_ask : {P : Type 0} (c m d : Counts) (r : ℕ) → Answered P c m → c.room ≡ Some r →
+    ((s : ℕ) → m.room ≡ Some s → (n : ℕ) × (d.room ≡ Some n) × (d.struck + n ≡ m.struck + s)) → (n : ℕ) × (d.room ≡ Some n) × (d.struck + n ≡ c.struck + r)
+room_left_ask c m d r (Honest e f) told rest =
+    let s = rest r (ap (λ (y : Counts). y.room) f ∙ told) in
+    (s.0, s.1, s.2 ∙ ap (λ (y : Counts). y.struck + r) f)
+room_left_ask c m d r (Struck a e l) told rest =
+    let s = lowered_room r m.room (subst (λ (o : Option ℕ). Lowered o m.room) told l) in
+    let n = rest s.0 s.1 in
+    (n.0, n.1, omega (arith, n.2, s.2, e))
+
+-- a told room stays told, and is less by one with each strike
+pub room_left : {R : Type 0} (t : Tree R) (c d : Counts) (x : R) (r : ℕ) → Runs any_core t c d x → c.room ≡ Some r →
+    (s : ℕ) × (d.room ≡ Some s) × (d.struck + s ≡ c.struck + r)
+room_left (Done r) c d x n (e, f) told = (n, ap (λ (y : Counts). y.room) f ∙ told, ap (λ (y : Counts). y.struck + n) f)
+room_left (Ask q k) c d x n (a, m, g, r) told = room_left_ask c m d n g told (λ s h. room_left (k a) m d x s r h)
+
+-- the same of a core that keeps the law of `Core`
+pub core_room_left : {S R : Type 0} (gives : S → (q : Question) → Answer q → S → Type 0) (counts : S → Counts) →
+    ((s : S) (q : Question) (a : Answer q) (t : S) → gives s q a t → Answered (a ≡ honestly_to q) (counts s) (counts t)) →
+    (t : Tree R) (c d : S) (x : R) (r : ℕ) → Runs gives t c d x → (counts c).room ≡ Some r →
+    (s : ℕ) × ((counts d).room ≡ Some s) × ((counts d).struck + s ≡ (counts c).struck + r)
+core_room_left gives counts law t c d x r run told = room_left t (counts c) (counts d) x r (counted_runs gives counts law t c d x run) told
+
+-- a room that allows one strike at most is told
+pub at_most_one : (o : Option ℕ) → IsAtMostOne o → (r : ℕ) × (o ≡ Some r) × (r ≤ 1)
+at_most_one None h = absurd h
+at_most_one (Some r) h = (r, refl, h)
+
+-- and is 1 at most
+pub one_at_most : (o : Option ℕ) (r : ℕ) → IsAtMostOne o → o ≡ Some r → r ≤ 1
+one_at_most o r h e = subst IsAtMostOne e h

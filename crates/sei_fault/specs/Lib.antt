@@ -1,7 +1,11 @@
 pub mod Counts
 pub mod Phases
 pub mod Plain
+pub mod Plans
 pub mod Question
+pub mod Script
+pub mod ScriptLaw
 pub mod Scripted
 pub mod Strikes
 pub mod Tree
+pub mod StruckRuns

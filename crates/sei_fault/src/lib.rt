@@ -1,12 +1,17 @@
 //! The core that a step asks for each of its effects, and that may answer otherwise than honestly:
-//! so a transient fault is an answer like any other. The laws over what a step asks, and what it
-//! makes of the answers, stand in `proofs/`.
+//! so a transient fault is an answer like any other. One core never strikes, and one carries out a
+//! planned fault. The laws over what a step asks, and what it makes of the answers, stand in
+//! `proofs/`.
 #![tactic(auto)]
 
 mod cause;
 mod fault_core;
 mod place;
 mod plain;
+mod plan;
+mod script;
+#[cfg(test)]
+mod script_tests;
 #[cfg(test)]
 mod tests;
 
@@ -14,3 +19,5 @@ pub use cause::AbortCause;
 pub use fault_core::{Core, Single};
 pub use place::{Act, Phase, Place, Site, Times};
 pub use plain::PlainCore;
+pub use plan::{Kind, Planned, Select};
+pub use script::ScriptCore;

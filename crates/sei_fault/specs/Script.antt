@@ -1,0 +1,79 @@
+-- The core that carries out one planned fault, by its plan and what became of it.
+use Rattle.std.specs.Prelude.{ℕ, ◌+◌, ◌-◌, ◌^◌, min, Bool, true, false, if◌then◌else◌, Option, Some, None, is_some, unwrap_or}
+use Rattle.sei_fault.specs.declared.place.Site.{Site}
+use Rattle.sei_fault.specs.declared.plan.Planned.{Planned}
+use Rattle.sei_fault.specs.declared.script.Stage.{Stage}
+use Rattle.sei_fault.specs.declared.script.Stage.TheVariants.{Waiting, Armed, Struck, Over}
+use Rattle.sei_fault.specs.Counts.{Counts, counted}
+use Rattle.sei_fault.specs.Plans.{fits, fault}
+use Rattle.sei_fault.specs.Question.{Question, Answer, honestly_to}
+use Rattle.sei_fault.specs.Question.Question.{Value, Often}
+
+-- how many questions were asked, the plan, and where it stands: it waits for its step, its step is
+-- being made and so many values were read in it, it has struck, or its step is over
+pub record ScriptState : Type 0 where
+  pub asked : ℕ
+  pub plan : Option Planned
+  pub stage : Stage
+
+abbrev pub script_begin : Option Planned → ScriptState
+script_begin plan = record { asked = 0; plan = plan; stage = Waiting }
+
+-- a plan that waits is armed where it fits the site
+abbrev pub waited : Option Planned → Site → Stage
+waited None site = Waiting
+waited (Some p) site = if fits p site then Armed 0 else Waiting
+
+-- a step begins at the site
+abbrev pub begun : Option Planned → Stage → Site → Stage
+begun plan Waiting site = waited plan site
+begun plan (Armed reads) site = Over
+begun plan Struck site = Struck
+begun plan Over site = Over
+
+-- the stage in which a question is answered: how often the act is done is asked first in a step
+abbrev pub stage_at : Option Planned → Stage → Question → Stage
+stage_at plan stage (Often site) = begun plan stage site
+stage_at plan stage q = stage
+
+-- what the plan answers in a stage, where it alters the answer
+abbrev pub altered_in : Option Planned → Stage → (q : Question) → Option (Answer q)
+altered_in (Some p) (Armed reads) q = fault p.kind reads q
+altered_in plan stage q = None
+
+abbrev pub altered : ScriptState → (q : Question) → Option (Answer q)
+altered s q = altered_in s.plan (stage_at s.plan s.stage q) q
+
+abbrev pub script_answer : ScriptState → (q : Question) → Answer q
+script_answer s q = unwrap_or (altered s q) (honestly_to q)
+
+-- a plan that has altered an answer has struck
+abbrev pub settled : Stage → Bool → Stage
+settled stage true = Struck
+settled stage false = stage
+
+-- one value more was read in the plan's step; the count stays at the last value of a u64
+abbrev pub read_more : Stage → Stage
+read_more (Armed reads) = Armed (min (reads + 1) (2 ^ 64 - 1))
+read_more stage = stage
+
+-- the stage behind a question, and whether its answer was altered
+abbrev pub stage_after : Stage → Bool → Question → Stage
+stage_after stage is_altered (Value h) = read_more (settled stage is_altered)
+stage_after stage is_altered q = settled stage is_altered
+
+abbrev pub script_next : ScriptState → Question → ScriptState
+script_next s q = record {
+  asked = counted s.asked;
+  plan = s.plan;
+  stage = stage_after (stage_at s.plan s.stage q) (is_some (altered s q)) q;
+}
+
+-- how many strikes fell
+abbrev pub fallen : Stage → ℕ
+fallen Struck = 1
+fallen stage = 0
+
+-- one strike can fall until the plan has struck, and none from then on
+abbrev pub script_counts : ScriptState → Counts
+script_counts s = record { asked = s.asked; struck = fallen s.stage; room = Some (1 - fallen s.stage) }

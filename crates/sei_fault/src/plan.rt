@@ -1,0 +1,158 @@
+//! The faults that a script may plan: at which step, and of which kind.
+ghost use Rattle.std.specs.Prelude.{◌≡◌, ℕ};
+ghost use Rattle.sei_fault.specs.declared.place.Site.{Site};
+ghost use Rattle.sei_fault.specs.Plans.{same_phase, same_place, selects, fits, fault};
+ghost use Rattle.sei_fault.specs.Question.Question.{Value, Written, Test, Often, Goes};
+
+use super::{Act, Phase, Place, Site, Times};
+
+/// By what a planned fault selects its step among those of its phase. An address is that of a
+/// word of the bucket.
+#[derive(Clone, Copy, Debug, PartialEq, Eq)]
+pub enum Select {
+    /// The step with this index.
+    Index(u64),
+    /// A step that reads the word at this address.
+    Load(u64),
+    /// A step that writes the word at this address.
+    Store(u64),
+    /// A step that asks what time it is.
+    Now,
+    /// A step that asks for a slot that is not in use.
+    Alloc,
+    /// A step that reads the input into words.
+    Parse,
+    /// A step that makes the output bytes from words.
+    Render,
+    /// A step that ends a pass.
+    Halt,
+}
+
+impl Select {
+    /// Whether a step with this index and this act is selected.
+    fn selects(&self, index: u64, act: Act) -> bool
+        ensures { result ≡ selects self.now index act }
+    {
+        match (*self, act) {
+            (Select::Index(number), _) => index == number,
+            (Select::Load(address), Act::Load(at)) => at == address,
+            (Select::Store(address), Act::Store(at)) => at == address,
+            (Select::Now, Act::Now) => true,
+            (Select::Alloc, Act::Alloc) => true,
+            (Select::Parse, Act::Parse) => true,
+            (Select::Render, Act::Render) => true,
+            (Select::Halt, Act::Halt) => true,
+            _ => false,
+        }
+    }
+}
+
+/// What a planned fault does in its step. Each kind alters one answer of the core.
+#[derive(Clone, Copy, Debug, PartialEq, Eq)]
+pub enum Kind {
+    /// Xors one number that is read with a mask.
+    Read {
+        /// Which one: how many are read before it in the step.
+        nth: u64,
+        /// The mask. A mask of 0 alters nothing, and is no strike.
+        mask: u64,
+    },
+    /// Xors the first number that is stored with a mask.
+    Write {
+        /// The mask. A mask of 0 alters nothing, and is no strike.
+        mask: u64,
+    },
+    /// Leaves the act out.
+    Skip,
+    /// Has the act done twice.
+    Repeat,
+    /// Goes on at another place.
+    Jump {
+        /// That place. Where the step leads there by itself, nothing is altered, and that is no
+        /// strike.
+        to: Place,
+    },
+    /// Negates the outcome of the first comparison.
+    Flip,
+}
+
+impl Kind {
+    /// What stands for the number that is read, where it is altered. So many were read before it
+    /// in the step.
+    pub(crate) fn read(&self, reads: u64, honest: u64) -> Option<u64>
+        ensures { result ≡ fault self.now reads (Value honest) }
+    {
+        match *self {
+            Kind::Read { nth, mask } if reads == nth && mask != 0 => Some(honest ^ mask),
+            _ => None,
+        }
+    }
+
+    /// What stands for the number that is stored, where it is altered.
+    pub(crate) fn written(&self, honest: u64) -> Option<u64>
+        ensures { (reads : ℕ) → result ≡ fault self.now reads (Written honest) }
+    {
+        match *self {
+            Kind::Write { mask } if mask != 0 => Some(honest ^ mask),
+            _ => None,
+        }
+    }
+
+    /// What stands for the outcome of the comparison, where it is altered.
+    pub(crate) fn test(&self, honest: bool) -> Option<bool>
+        ensures { (reads : ℕ) → result ≡ fault self.now reads (Test honest) }
+    {
+        match *self {
+            Kind::Flip => Some(!honest),
+            _ => None,
+        }
+    }
+
+    /// How often the act is done, where that is altered.
+    pub(crate) fn times(&self) -> Option<Times>
+        ensures { (reads : ℕ) (site : Site) → result ≡ fault self.now reads (Often site) }
+    {
+        match *self {
+            Kind::Skip => Some(Times::Skip),
+            Kind::Repeat => Some(Times::Twice),
+            _ => None,
+        }
+    }
+
+    /// Where the traversal goes on, where that is altered.
+    pub(crate) fn next(&self, honest: Place) -> Option<Place>
+        ensures { (reads : ℕ) → result ≡ fault self.now reads (Goes honest) }
+    {
+        match *self {
+            Kind::Jump { to } if !is_place(to, honest) => Some(to),
+            _ => None,
+        }
+    }
+}
+
+/// Whether both are the same place.
+fn is_place(one: Place, other: Place) -> bool
+    ensures { result ≡ same_place one other }
+{
+    one.phase == other.phase && one.index == other.index
+}
+
+/// A fault that comes once in a traversal, at the first step that it fits.
+#[derive(Clone, Copy, Debug, PartialEq, Eq)]
+pub struct Planned {
+    /// The phase of its step.
+    pub phase: Phase,
+    /// Which step of the phase it is.
+    pub select: Select,
+    /// What it does there.
+    pub kind: Kind,
+}
+
+impl Planned {
+    /// Whether the step at this site is of the phase and is selected.
+    pub fn fits(&self, site: Site) -> bool
+        ensures { result ≡ fits self.now site }
+    {
+        self.phase == site.place.phase && self.select.selects(site.place.index, site.act)
+    }
+}
