@@ -4,6 +4,7 @@ pub mod ByteLaws
 pub mod InputLaws
 pub mod FillLaws
 pub mod ReadLaws
+pub mod CountedLaws
 pub mod CallLaws
 pub mod Shared
 pub mod ReplyLaws

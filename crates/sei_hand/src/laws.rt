@@ -1,6 +1,6 @@
 //! Laws of the definitions, each the clause of a function that does nothing.
 
-ghost use Rattle.std.specs.Prelude.{◌≡◌, ℕ, ◌≤◌, ◌*◌, List, length, Some, None};
+ghost use Rattle.std.specs.Prelude.{◌≡◌, ℕ, ◌<◌, ◌≤◌, ◌*◌, List, length, Some, None, slice_get};
 ghost use Rattle.mc_model.specs.declared.geometry.Geometry.{Geometry};
 ghost use Rattle.mc_model.specs.Call.{Placed};
 ghost use Rattle.mc_model.specs.Packed.{AreBytes};
@@ -8,9 +8,10 @@ ghost use Rattle.mc_model.specs.Server.{IsValid, room_of};
 ghost use Rattle.mc_text.specs.declared.limits.Limits.{Limits};
 ghost use Rattle.mc_text.specs.Meaning.{Meaning};
 ghost use Rattle.mc_text.specs.Spells.{Spells};
+ghost use Rattle.sei_stmt.specs.declared.stmt.Stmt.{Stmt};
 ghost use Rattle.sei_stmt.specs.Handling.{Parsed, parsed_words};
 ghost use Rattle.sei_hand.specs.InputWords.{input_words, input_room};
-ghost use Rattle.sei_hand.specs.Requests.{limits_of, request_of, call_in, call_or_blank, parsed_of, parsed_call};
+ghost use Rattle.sei_hand.specs.Requests.{limits_of, request_of, call_in, call_or_blank, count_of_calls, parsed_of, parsed_call};
 ghost use Rattle.mc_model.specs.Answer.{answer};
 ghost use Rattle.mc_render.specs.Rendering.{rendered};
 ghost use Rattle.sei_stmt.specs.Sound.{IsSound};
@@ -39,6 +40,18 @@ pub fn calls_are_read()
     ensures room { (g : Geometry) (bytes : List ℕ) (nth : ℕ) →
         IsValid g → length (parsed_words (parsed_call g bytes nth)) ≤ input_room g }
     ensures words { (g : Geometry) (p : Placed) → IsReadCall g p → length (input_words g p.call) ≡ input_room g }
+{}
+
+/// The calls of an input are those whose numbers are below their number, and each is for a bucket
+/// of the geometry. The table parses the input before all else.
+pub fn calls_are_counted()
+    ensures counted { (g : Geometry) (bytes : List ℕ) (nth count : ℕ) →
+        count_of_calls g bytes ≡ Some count → nth < count → (p : Parsed) × (parsed_call g bytes nth ≡ Some p) }
+    ensures found { (g : Geometry) (bytes : List ℕ) (nth : ℕ) (p : Parsed) →
+        parsed_call g bytes nth ≡ Some p → (count : ℕ) × (count_of_calls g bytes ≡ Some count) × (nth < count) }
+    ensures buckets { (g : Geometry) (bytes : List ℕ) (nth : ℕ) (p : Parsed) →
+        IsValid g → parsed_call g bytes nth ≡ Some p → p.bucket < g.buckets }
+    ensures parses { (g : Geometry) → slice_get (hands_table g) 0 ≡ Some Stmt.Parse }
 {}
 
 /// The hands of each valid geometry are sound: from words that stand for a bucket, each honest run of

@@ -13,4 +13,4 @@ mod table;
 mod tests;
 
 pub use hands::{Hands, HandsError};
-pub use laws::{calls_are_read, hands_are_sound, requests_are_spelled};
+pub use laws::{calls_are_counted, calls_are_read, hands_are_sound, requests_are_spelled};

@@ -36,3 +36,4 @@ pub mod ErrandLaws
 pub mod TableCalls
 pub mod Traversing
 pub mod TableRuns
+pub mod HandsTrusted

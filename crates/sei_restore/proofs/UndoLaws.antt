@@ -6,7 +6,8 @@ use Rattle.std.proofs.lemmas.Option.{slice_get-get_or, slice_get_within}
 use Rattle.std.proofs.lemmas.List.{length-set}
 use Rattle.sei_fault.specs.Tree.{honest}
 use Rattle.sei_log.specs.declared.log.Change.{Change}
-use Rattle.sei_restore.specs.Undoing.{undo_at, undo_tree, undo_word, LeadsTo, undone, restored}
+use Rattle.sei_log.specs.Changes.{undone}
+use Rattle.sei_restore.specs.Undoing.{undo_at, undo_tree, undo_word, LeadsTo, restored}
 
 -- an element that is put back where another one came
 put_back : (xs : List ℕ) (i x was : ℕ) → slice_get xs i ≡ Some was → slice_set (slice_set xs i x) i was ≡ xs

@@ -37,11 +37,6 @@ abbrev pub LeadsTo : List ℕ → List Change → List ℕ → Type 0
 LeadsTo before [] after = after ≡ before
 LeadsTo before (c ∷ rest) after = (slice_get before c.address ≡ Some c.was) × LeadsTo (slice_set before c.address c.becomes) rest after
 
--- the words behind the undoing of all these changes, the last one first
-abbrev pub undone : List Change → List ℕ → List ℕ
-undone [] words = words
-undone (c ∷ rest) words = slice_set (undone rest words) c.address c.was
-
 -- the words when, without a strike, the changes at the first n places are undone, counted from the last change
 abbrev pub restored : List Change → List ℕ → ℕ → List ℕ
 restored log words zero = words

@@ -6,3 +6,6 @@ pub mod ProgramLaws
 pub mod SwitchLaws
 pub mod TieLaws
 pub mod ServeLaws
+pub mod Effects
+pub mod Relog
+pub mod Invariant

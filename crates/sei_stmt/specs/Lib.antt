@@ -11,3 +11,4 @@ pub mod Runs
 pub mod Given
 pub mod Programs
 pub mod Touch
+pub mod Asked

@@ -74,6 +74,7 @@ answered_stays : (e : Errand) (w : Walk) (want : Want) (to : Place) (time made :
 answered_stays e w want to time made end asked answered = record {
   whole = answered.whole;
   second = second_done e w want to end answered.second;
+  notes = answered.notes;
   copy = answered.copy;
   questions = answered.questions;
 }
@@ -289,6 +290,7 @@ module _ (e : Errand) (now : ℕ) (w : Walk) (words : List ℕ) (steps asked : �
       answered = record {
         whole = i.both.whole;
         second = second_done e w WantGive (at Send 0) i.end i.both.second;
+        notes = i.both.first.notes;
         copy = i.copy;
         questions = omega (arith, i.both.questions);
       };

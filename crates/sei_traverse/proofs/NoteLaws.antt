@@ -28,10 +28,10 @@ use Rattle.sei_traverse.specs.Comes.{again, renoted, renoted_end}
 -- one statement in both passes
 
 -- the statement ends honestly as in the first pass, but for the notes, which it leaves, and asks as many questions
-record Same (notes : Notes) (m : Machine) (first second : Tree After) : Type 0 where
-  ended : honest second ≡ renoted_end notes (honest first)
-  asked : questions second ≡ questions first
-  left : (honest first).machine.notes ≡ m.notes
+pub record Same (notes : Notes) (m : Machine) (first second : Tree After) : Type 0 where
+  pub ended : honest second ≡ renoted_end notes (honest first)
+  pub asked : questions second ≡ questions first
+  pub left : (honest first).machine.notes ≡ m.notes
 
 asking : (notes : Notes) (m : Machine) {q : Question} {f s : Answer q → Tree After} → Same notes m (f (honestly_to q)) (s (honestly_to q)) → Same notes m (Ask q f) (Ask q s)
 asking notes m r = record { ended = r.ended; asked = ap (λ n. 1 + n) r.asked; left = r.left }
@@ -104,12 +104,12 @@ same_render g k m i read [] = same_rendered g k m i (g.rendered read)
 same_render g k m i read (word ∷ words) = asking k m (same_render g k m i (read ++ word ∷ []) words)
 
 -- a statement takes the time, or a slot, or is the same in both passes
-data Kind (g : Setting) (k : Notes) (i : ℕ) (m : Machine) (s : Stmt) : Type 0 where
+pub data Kind (g : Setting) (k : Notes) (i : ℕ) (m : Machine) (s : Stmt) : Type 0 where
   Timing : (to : ℕ) → s ≡ Now to → Kind g k i m s
   Slotting : (to moment : ℕ) → s ≡ Alloc to moment → Kind g k i m s
   Plain : Same k m (statement_tree g i m s) (statement_tree (again g) i (renoted k m) s) → Kind g k i m s
 
-kind : (g : Setting) (k : Notes) (i : ℕ) (m : Machine) (s : Stmt) → Kind g k i m s
+pub kind : (g : Setting) (k : Notes) (i : ℕ) (m : Machine) (s : Stmt) → Kind g k i m s
 kind g k i m (Const to number) = Plain (record { ended = refl; asked = refl; left = refl })
 kind g k i m (Move to from) = Plain (record { ended = refl; asked = refl; left = refl })
 kind g k i m (Add to left right) = Plain (record { ended = refl; asked = refl; left = refl })
@@ -157,7 +157,7 @@ pub now_kept : (g : Setting) (i : ℕ) (m : Machine) (o : Option Stmt) → g.rea
 now_kept g i m None first other = refl
 now_kept g i m (Some s) first other = now_counted g i m (record m { made = m.made + 1 }) s (nat_lt m.made g.budget) first refl (λ to e. other to (ap Some e))
 
-read_sealed : (v : ℕ) → read_of (sealed v) ≡ Some v
+pub read_sealed : (v : ℕ) → read_of (sealed v) ≡ Some v
 read_sealed v = simp (eq-eqb (complement v) (complement v) refl)
 
 -- these notes have each note of those

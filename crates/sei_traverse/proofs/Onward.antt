@@ -36,14 +36,14 @@ use Rattle.sei_traverse.proofs.Settled.{settles, settles_end}
 -- the act of a clean traversal leads on, or to the end
 
 -- what is lent behind a step that leaves these words
-abbrev left_of : Option BucketWords → List ℕ → Option (List ℕ)
+abbrev pub left_of : Option BucketWords → List ℕ → Option (List ℕ)
 left_of None words = None
 left_of (Some b) words = Some words
 
-abbrev given_with : Errand → Option BucketWords → Given
+abbrev pub given_with : Errand → Option BucketWords → Given
 given_with e loan = given_of e.service e.input e.geometry (bucket_of loan)
 
-abbrev ActsOn : Errand → ℕ → Walk → Option BucketWords → ℕ → ℕ → Phase → Type 0
+abbrev pub ActsOn : Errand → ℕ → Walk → Option BucketWords → ℕ → ℕ → Phase → Type 0
 ActsOn e now w loan steps asked p =
     GoesOn e (given_with e loan) now p w (words_of loan) (left_of loan) steps asked ⊎ (Finishes e (given_with e loan) now p w (words_of loan) steps asked × (want_in e w p ≡ Nothing) × NextIn p w.place.index Last)
 
@@ -54,7 +54,7 @@ of_bucket e now w b steps asked p h a =
     inl (subst (λ (n : ℕ). GoesOn e (given_of e.service e.input e.geometry (Some n)) now p w b.words (λ left. Some left) steps asked) (sym h) a)
 
 module _ (e : Errand) (ie : IsErrand e) (now : ℕ) (small : now < 2 ^ 64) (told : Follows e.clock now) (w : Walk) (nothing : w.want ≡ Nothing) (steps asked : ℕ) where
-  acts_on : (loan : Option BucketWords) (p : Phase) → Lends e p loan → CleanIn e w (lent_words loan) steps asked p → ActsOn e now w loan steps asked p
+  pub acts_on : (loan : Option BucketWords) (p : Phase) → Lends e p loan → CleanIn e w (lent_words loan) steps asked p → ActsOn e now w loan steps asked p
   acts_on None Guard h i = inl (guard_on e ie now None w (words_of None) steps asked i)
   acts_on None Take h i = inl (take_on e ie now None w (words_of None) steps asked nothing i)
   acts_on None Send h i = inl (send_on e now w (words_of None) steps asked None i)
@@ -83,18 +83,18 @@ answer_fits : (told : Option ℕ) (now : ℕ) → TellsTime told → IsAnswer to
 answer_fits None now h a = a
 answer_fits (Some t) now h a = omega (arith, h, a)
 
-answer_is : (clock told : Option ℕ) (now : ℕ) → TellsTime clock → TellsAs clock told → IsAnswer told now → (now < 2 ^ 64) × Follows clock now
+pub answer_is : (clock told : Option ℕ) (now : ℕ) → TellsTime clock → TellsAs clock told → IsAnswer told now → (now < 2 ^ 64) × Follows clock now
 answer_is None told now f h a = (answer_fits told now h a, search)
 answer_is (Some t) told now f h a = let is : now ≡ t = subst (λ (o : Option ℕ). IsAnswer o now) h a in (omega (arith, f, is), is)
 
 -- what is lent stays where it is
-still_lent : (loan left : Option BucketWords) (words : List ℕ) → place_of left ≡ place_of loan → words ≡ words_of left → left_of loan words ≡ lent_words left
+pub still_lent : (loan left : Option BucketWords) (words : List ℕ) → place_of left ≡ place_of loan → words ≡ words_of left → left_of loan words ≡ lent_words left
 still_lent None None words e h = refl
 still_lent None (Some b) words e h = absurd cc
 still_lent (Some a) None words e h = absurd cc
 still_lent (Some a) (Some b) words e h = ap (λ (ws : List ℕ). let o : Option (List ℕ) = Some ws in o) h
 
-one_more_at_most : (n : ℕ) → one_more n ≤ suc n
+pub one_more_at_most : (n : ℕ) → one_more n ≤ suc n
 one_more_at_most n = omega arith
 
 want_same : (e : Errand) (w : Walk) (p : Phase) → want_in e (unwanting w) p ≡ want_in e w p

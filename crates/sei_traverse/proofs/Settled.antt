@@ -45,7 +45,7 @@ in_both e w n lent time made end asked x =
     record { whole = x.whole; first = first_done e w n end x.first; second = second_done e w n end x.second; words = x.words; questions = x.questions }
 
 is_answered : (e : Errand) (w : Walk) (n : Want) (time made : ℕ) (end : Machine) (asked : ℕ) → IsAnswered e w time made end asked → IsAnswered e (wanting w n) time made end asked
-is_answered e w n time made end asked x = record { whole = x.whole; second = second_done e w n end x.second; copy = x.copy; questions = x.questions }
+is_answered e w n time made end asked x = record { whole = x.whole; second = second_done e w n end x.second; notes = x.notes; copy = x.copy; questions = x.questions }
 
 -- where a traversal stands after some steps, it stands by any smaller number too, whatever it wants
 pub settles : (e : Errand) (w : Walk) (n : Want) (lent : Option (List ℕ)) (s t asked : ℕ) (p : Phase) → s ≤ t → CleanIn e w lent t asked p →

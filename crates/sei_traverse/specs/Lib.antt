@@ -3,6 +3,7 @@ pub mod Acts
 pub mod Phases
 pub mod PassActs
 pub mod Step
+pub mod Noting
 pub mod Comes
 pub mod Walks
 pub mod Errand
@@ -11,3 +12,7 @@ pub mod State
 pub mod OnWay
 pub mod Served
 pub mod Sound
+pub mod Trusted
+pub mod Struck
+pub mod Facts
+pub mod Bounds

@@ -201,6 +201,7 @@ pub record InGive (e : Errand) (w : Walk) (lent : Option (List ℕ)) (steps aske
 pub record IsAnswered (e : Errand) (w : Walk) (time made : ℕ) (end : Machine) (asked : ℕ) : Type 0 where
   pub whole : Whole e time made end
   pub second : SecondIsDone e w end
+  pub notes : w.notes ≡ end.notes
   pub copy : w.wire.items ≡ end.bytes.items
   pub questions : 2 * first_questions e time made ≤ asked
 

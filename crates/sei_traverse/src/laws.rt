@@ -2,11 +2,16 @@
 ghost use Rattle.std.specs.Prelude.{◌≡◌, ℕ, ◌+◌, ◌*◌, ◌≤◌, List, Option, Some, None};
 ghost use Rattle.sei_fault.specs.Counts.{Counts};
 ghost use Rattle.sei_fault.specs.declared.place.Phase.{Phase};
+ghost use Rattle.mc_model.specs.declared.geometry.Geometry.{Geometry};
 ghost use Rattle.sei_pass.specs.State.{budget_of};
+ghost use Rattle.sei_pass.specs.declared.given.Sealed.{Sealed};
+ghost use Rattle.sei_traverse.specs.Bounds.{most_steps, StepsWithin};
 ghost use Rattle.sei_traverse.specs.Errand.{Errand, IsErrand};
+ghost use Rattle.sei_traverse.specs.Facts.{Facts};
 ghost use Rattle.sei_traverse.specs.OnWay.{OnWay, AtEnd};
 ghost use Rattle.sei_traverse.specs.Served.{IsServed, HasReply};
-ghost use Rattle.sei_traverse.specs.State.{TraversalState, begun};
+ghost use Rattle.sei_traverse.specs.State.{TraversalState, IsTraversal, begun};
+ghost use Rattle.sei_traverse.specs.Trusted.{IsTrusted};
 ghost use Rattle.sei_traverse.specs.Walks.{log_room};
 
 /// A traversal that begins for an errand is on its way. It stays so where the words that were taken
@@ -25,6 +30,28 @@ pub fn traversals_end()
         t.steps ≤ 2 * budget_of e.geometry + 3 * log_room e.geometry + 11 }
     ensures ended { (e : Errand) (t : TraversalState) (begin now : Counts) → AtEnd e t begin now → now.struck ≡ begin.struck →
         t.steps ≤ 2 * budget_of e.geometry + 3 * log_room e.geometry + 11 }
+{}
+
+/// What is known of a traversal that one strike at most has struck is known where it begins, for every
+/// handler, input and list of words. It stays known where the words that were taken are lent when they
+/// are wanted, and where they are lent no more once the bucket is given back: the gate has closed two
+/// phases then, and nine. Where no strike fell, it is on its way. That it stays known behind each step
+/// is the clause `isolated` of `Traversal::step`.
+pub fn faults_are_isolated()
+    ensures begins { (e : Errand) (c : Counts) → Facts e (begun e.geometry e.sealed) None c c }
+    ensures lends { (e : Errand) (t : TraversalState) (begin now : Counts) → IsTrusted e → t.walk.gate.done ≡ 2 →
+        Facts e t None begin now → Facts e t (Some e.taken) begin now }
+    ensures gives { (e : Errand) (t : TraversalState) (words : List ℕ) (begin now : Counts) → t.walk.gate.done ≡ 9 →
+        Facts e t (Some words) begin now → Facts e t None begin now }
+    ensures on_way { (e : Errand) (t : TraversalState) (lent : Option (List ℕ)) (begin now : Counts) → Facts e t lent begin now → OnWay e t lent begin now }
+{}
+
+/// With one strike at most since it began, a traversal makes no more steps than its bound, whatever
+/// its handler and its input are.
+pub fn steps_are_bounded()
+    ensures begins { (g : Geometry) (sealed : Sealed) (c : Counts) → StepsWithin (begun g sealed) c c }
+    ensures bounded { (t : TraversalState) (begin now : Counts) → IsTraversal t → StepsWithin t begin now → now.struck ≤ begin.struck + 1 →
+        t.steps ≤ most_steps t.geometry }
 {}
 
 /// Without a strike, from the want of Enter on, both passes were made: the words are those that an

@@ -16,6 +16,9 @@ mod turned;
 mod verifying;
 mod walk;
 
-pub use laws::{both_passes_are_made, traversals_are_on_their_way, traversals_end};
+pub use laws::{
+    both_passes_are_made, faults_are_isolated, steps_are_bounded, traversals_are_on_their_way,
+    traversals_end,
+};
 pub use traversal::Traversal;
 pub use turned::{Abort, State, Turned, Want};

@@ -1,5 +1,5 @@
 //! A traversal.
-ghost use Rattle.std.specs.Prelude.{◌≡◌, ℕ, ◌≤◌, IfOk, length, true, None};
+ghost use Rattle.std.specs.Prelude.{◌≡◌, ℕ, ◌+◌, ◌^◌, ◌<◌, ◌≤◌, IfOk, IfSome, length, true, Some, None};
 ghost use Rattle.mc_model.specs.Server.{IsValid};
 ghost use Rattle.sei_code.specs.declared.modes.Mode.{Mode};
 ghost use Rattle.sei_fault.specs.Counts.{Counts};
@@ -8,12 +8,16 @@ ghost use Rattle.sei_words.specs.Exits.{lent_at, lent_left};
 ghost use Rattle.sei_words.specs.Loan.{words_of, bucket_of, place_of, IsOf};
 ghost use Rattle.sei_pass.specs.Setting.{is_intact, sealed_call};
 ghost use Rattle.sei_pass.specs.State.{input_room, bytes_room};
+ghost use Rattle.sei_traverse.specs.Bounds.{StepsWithin, StepsAfter};
 ghost use Rattle.sei_traverse.specs.Errand.{Errand, IsErrand};
+ghost use Rattle.sei_traverse.specs.Facts.{Facts, LendsWanted, Isolates};
 ghost use Rattle.sei_traverse.specs.OnWay.{lent_words, Lends, TellsAs, OnWay, StaysOnWay, IsUnfit};
+ghost use Rattle.sei_traverse.specs.Noting.{NotesTime};
 ghost use Rattle.sei_traverse.specs.Phases.{reply_of};
 ghost use Rattle.sei_traverse.specs.Service.{service_of, given_of, has_sealed_call};
 ghost use Rattle.sei_traverse.specs.State.{IsTraversal, begun, one_more, goes_on, noted_time};
 ghost use Rattle.sei_traverse.specs.Step.{turn, turn_tree, TimedTwice};
+ghost use Rattle.sei_traverse.specs.Trusted.{IsTrusted};
 ghost use Rattle.sei_traverse.specs.Walks.{log_room, IsWalk, Stays};
 
 use crate::turned::{State, Turned, Want};
@@ -183,7 +187,8 @@ impl Traversal {
 
     /// The time that the first pass was told and noted, where the note reads.
     pub fn now(&self) -> Option<u64>
-        ensures { result ≡ noted_time self.now }
+        ensures noted { result ≡ noted_time self.now }
+        ensures small { IfSome (noted_time self.now) (λ time. time < 2 ^ 64) }
     {
         match self.walk.notes.now {
             None => None,
@@ -219,12 +224,27 @@ impl Traversal {
         ensures running { self.new.running ≡ goes_on result.state }
         // Logs, outputs and copies keep their rooms.
         ensures rooms { IsTraversal self.new }
+        // Each step but a struck one comes further, so with one strike at most the number of steps is bounded.
+        ensures within { (begin : Counts) → StepsWithin self.old begin (K.counts core.old) → StepsAfter self.new begin (K.counts core.new) result.state }
+        // What is noted of the time is the clock's answer, whatever the core answers.
+        ensures noted { NotesTime (C.told clock.now) self.old.walk.notes.now self.new.walk.notes.now }
+        // Where the core tells how many strikes can still fall, it still does, and each strike is one less.
+        ensures room { (r : ℕ) → (K.counts core.old).room ≡ Some r →
+            (s : ℕ) × ((K.counts core.new).room ≡ Some s) × ((K.counts core.new).struck + s ≡ (K.counts core.old).struck + r) }
         // A traversal that is on its way stays on it: it is refused or aborts only where a strike fell since it began,
         // and otherwise stands where its definition leads, or has come to its end.
         ensures on_way { (e : Errand) (begin : Counts) → IsErrand e → TellsAs e.clock (C.told clock.now) →
             e.service ≡ service_of (H.statements hands.now) (H.call_count hands.now) (H.parsed hands.now) (H.rendered hands.now) → e.input ≡ input.now →
             Lends e self.old.walk.place.phase (lent_at lent.entry) → OnWay e self.old (lent_words (lent_at lent.entry)) begin (K.counts core.old) →
             StaysOnWay e self.old self.new (lent_words (lent_left lent.exit)) begin (K.counts core.new) result.want result.state }
+        // One strike is isolated: what is known of a traversal is known behind each step; what it wants is so, and is wanted
+        // but once; it aborts only where a strike fell, and is refused only before Take is closed. Where the caller follows
+        // what is wanted, it lends what the next step asks for.
+        ensures isolated { (e : Errand) (begin : Counts) → IsTrusted e → TellsAs e.clock (C.told clock.now) →
+            e.service ≡ service_of (H.statements hands.now) (H.call_count hands.now) (H.parsed hands.now) (H.rendered hands.now) → e.input ≡ input.now →
+            LendsWanted self.old.walk (lent_at lent.entry) → Facts e self.old (lent_words (lent_at lent.entry)) begin (K.counts core.old) →
+            (K.counts core.new).struck ≤ begin.struck + 1 →
+            Isolates e self.old self.new (lent_at lent.entry) (lent_left lent.exit) begin (K.counts core.new) result.want result.state }
         // Without a strike an input that does not pass the tests of Guard is refused.
         ensures refused { IsUnfit (given_of (service_of (H.statements hands.now) (H.call_count hands.now) (H.parsed hands.now) (H.rendered hands.now)) input.now self.old.geometry None) self.old.walk →
             (K.counts core.new).struck ≡ (K.counts core.old).struck → result.state ≡ State.Refused }
@@ -257,10 +277,19 @@ impl Traversal {
         ensures steps { self.new.steps ≡ one_more self.old.steps }
         ensures running { self.new.running ≡ goes_on result.state }
         ensures rooms { IsTraversal self.new }
+        ensures within { (begin : Counts) → StepsWithin self.old begin (K.counts core.old) → StepsAfter self.new begin (K.counts core.new) result.state }
+        ensures noted { NotesTime (C.told clock.now) self.old.walk.notes.now self.new.walk.notes.now }
+        ensures room { (r : ℕ) → (K.counts core.old).room ≡ Some r →
+            (s : ℕ) × ((K.counts core.new).room ≡ Some s) × ((K.counts core.new).struck + s ≡ (K.counts core.old).struck + r) }
         ensures on_way { (e : Errand) (begin : Counts) → IsErrand e → TellsAs e.clock (C.told clock.now) →
             e.service ≡ service_of (H.statements hands.now) (H.call_count hands.now) (H.parsed hands.now) (H.rendered hands.now) → e.input ≡ input.now →
             Lends e self.old.walk.place.phase (L.loan lent.old) → OnWay e self.old (lent_words (L.loan lent.old)) begin (K.counts core.old) →
             StaysOnWay e self.old self.new (lent_words (L.loan lent.new)) begin (K.counts core.new) result.want result.state }
+        ensures isolated { (e : Errand) (begin : Counts) → IsTrusted e → TellsAs e.clock (C.told clock.now) →
+            e.service ≡ service_of (H.statements hands.now) (H.call_count hands.now) (H.parsed hands.now) (H.rendered hands.now) → e.input ≡ input.now →
+            LendsWanted self.old.walk (L.loan lent.old) → Facts e self.old (lent_words (L.loan lent.old)) begin (K.counts core.old) →
+            (K.counts core.new).struck ≤ begin.struck + 1 →
+            Isolates e self.old self.new (L.loan lent.old) (L.loan lent.new) begin (K.counts core.new) result.want result.state }
         ensures refused { IsUnfit (given_of (service_of (H.statements hands.now) (H.call_count hands.now) (H.parsed hands.now) (H.rendered hands.now)) input.now self.old.geometry None) self.old.walk →
             (K.counts core.new).struck ≡ (K.counts core.old).struck → result.state ≡ State.Refused }
     {

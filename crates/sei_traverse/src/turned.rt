@@ -6,7 +6,8 @@ use sei_fault::{AbortCause, Phase};
 pub enum Want {
     /// Nothing.
     Nothing,
-    /// That this bucket is taken, and lent from now on.
+    /// That this bucket is taken, and lent from now on. A struck traversal may want another one than
+    /// that of its call.
     Take {
         /// The number of the bucket, from 0.
         bucket: u64,
@@ -35,7 +36,8 @@ pub enum State {
     Went,
     /// It came to its end, with all phases closed.
     Finished,
-    /// Its input is not the sealed one, or is not one whole request with the sealed call.
+    /// Guard was answered that its input is not the sealed one, or is not one whole request with the
+    /// sealed call.
     Refused,
     /// It aborted.
     Aborted(Abort),

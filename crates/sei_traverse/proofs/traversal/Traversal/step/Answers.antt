@@ -20,3 +20,27 @@ returns-in-Some-clause-on_way g c = rw c.in-Some.is c.step_on-in-Some.ensures.on
 
 pub returns-in-Some-clause-refused : goal.returns-in-Some-clause-refused
 returns-in-Some-clause-refused g c = c.step_on-in-Some.ensures.refused
+
+pub returns-in-None-clause-isolated : goal.returns-in-None-clause-isolated
+returns-in-None-clause-isolated g c = rw c.in-None.is c.step_on.ensures.isolated
+
+pub returns-in-Some-clause-isolated : goal.returns-in-Some-clause-isolated
+returns-in-Some-clause-isolated g c = rw c.in-Some.is c.step_on-in-Some.ensures.isolated
+
+pub returns-in-None-clause-within : goal.returns-in-None-clause-within
+returns-in-None-clause-within g c = c.step_on.ensures.within
+
+pub returns-in-Some-clause-within : goal.returns-in-Some-clause-within
+returns-in-Some-clause-within g c = c.step_on-in-Some.ensures.within
+
+pub returns-in-None-clause-noted : goal.returns-in-None-clause-noted
+returns-in-None-clause-noted g c = c.step_on.ensures.noted
+
+pub returns-in-Some-clause-noted : goal.returns-in-Some-clause-noted
+returns-in-Some-clause-noted g c = c.step_on-in-Some.ensures.noted
+
+pub returns-in-None-clause-room : goal.returns-in-None-clause-room
+returns-in-None-clause-room g c = c.step_on.ensures.room
+
+pub returns-in-Some-clause-room : goal.returns-in-Some-clause-room
+returns-in-Some-clause-room g c = c.step_on-in-Some.ensures.room

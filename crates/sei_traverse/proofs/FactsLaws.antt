@@ -1,0 +1,100 @@
+-- Laws of what is known of a traversal: where it begins, where its bucket is lent, and where that is given back.
+use Rattle.std.proofs.Common.{◌≡◌, ℕ, List, Option, Some, None, sym, ap, ◌∙◌, subst, refl, arith}
+use Rattle.sei_code.specs.Kept.{Kept}
+use Rattle.sei_fault.specs.Counts.{Counts}
+use Rattle.sei_fault.specs.declared.place.Phase.{Phase}
+use Rattle.sei_fault.specs.Phases.{phase_number}
+use Rattle.sei_fault.specs.declared.place.Phase.TheVariants.{First, Send}
+use Rattle.sei_log.specs.Changes.{undone}
+use Rattle.sei_log.specs.declared.log.Change.{Change}
+use Rattle.sei_traverse.specs.declared.walk.Walk.{Walk}
+use Rattle.sei_traverse.specs.Errand.{Errand}
+use Rattle.sei_traverse.specs.Facts.{StruckCase, Facts}
+use Rattle.sei_traverse.specs.Facts.StruckCase.{Right, Lost}
+use Rattle.sei_traverse.specs.OnWay.{OnWay}
+use Rattle.sei_traverse.specs.State.{TraversalState, begun}
+use Rattle.sei_traverse.specs.Struck.{FirstStruck, StruckIn}
+use Rattle.sei_traverse.specs.Struck.FirstStruck.{Restorable}
+use Rattle.sei_traverse.specs.Trusted.{IsTrusted}
+use Rattle.sei_traverse.specs.Unstruck.{FirstIsNew, CleanIn}
+use Rattle.sei_traverse.proofs.EdgeActs.{lends}
+use Rattle.sei_traverse.proofs.StepEnds.{same_phase, clean_gate}
+
+pub facts_begin : (e : Errand) (c : Counts) → Facts e (begun e.geometry e.sealed) None c c
+facts_begin e c = record {
+  later = omega arith;
+  unstruck = λ u. record {
+    clean = record {
+      geometry = refl;
+      asked = 0;
+      clean = record {
+        in_phase = record {
+          is = record { sealed = refl; gate = refl };
+          index = refl;
+          first = record { first = refl; first_log = refl; notes = refl };
+          second = record { second = refl; second_log = refl };
+          number = omega arith;
+          questions = refl;
+        };
+      };
+      counted = λ m. omega arith;
+    };
+    knows = tt;
+  };
+  struck = λ s. absurd (omega (arith, s));
+}
+
+-- what is lent may be other words, where its phase says so
+relent : (e : Errand) (t : TraversalState) (old new : Option (List ℕ)) (begin now : Counts) (p : Phase) → t.walk.gate.done ≡ phase_number p →
+    ((steps asked : ℕ) → CleanIn e t.walk old steps asked p → CleanIn e t.walk new steps asked p) →
+    ((asked : ℕ) → StruckIn e t.walk old asked p → StruckIn e t.walk new asked p) → Facts e t old begin now → Facts e t new begin now
+relent e t old new begin now p gate clean struck facts = record {
+  later = facts.later;
+  unstruck = λ u.
+      let f = facts.unstruck u in
+      let is : t.walk.place.phase ≡ p = here (clean_gate e t.walk old t.steps f.clean.asked t.walk.place.phase f.clean.clean.in_phase) in
+      record {
+        clean = record {
+          geometry = f.clean.geometry;
+          asked = f.clean.asked;
+          clean = record {
+            in_phase = subst (λ (q : Phase). CleanIn e t.walk new t.steps f.clean.asked q) (sym is)
+                (clean t.steps f.clean.asked (subst (λ (q : Phase). CleanIn e t.walk old t.steps f.clean.asked q) is f.clean.clean.in_phase));
+          };
+          counted = f.clean.counted;
+        };
+        knows = f.knows;
+      };
+  struck = λ s.
+      let f = facts.struck s in
+      record { geometry = f.geometry; sealed = f.sealed; asked = f.asked; case = by_case f.asked f.case; counted = f.counted };
+}
+  where
+    here : t.walk.gate.done ≡ phase_number t.walk.place.phase → t.walk.place.phase ≡ p
+    here right = same_phase t.walk.place.phase p (sym right ∙ gate)
+
+    by_case : (asked : ℕ) → StruckCase e t.walk old asked → StruckCase e t.walk new asked
+    by_case asked (Right right stands) =
+        let is : t.walk.place.phase ≡ p = here right in
+        Right right (subst (λ (q : Phase). StruckIn e t.walk new asked q) (sym is) (struck asked (subst (λ (q : Phase). StruckIn e t.walk old asked q) is stands)))
+    by_case asked (Lost wrong fit) = Lost wrong fit
+
+-- an empty log undoes nothing
+undoes_none : (e : Errand) (w : Walk) (asked : ℕ) → FirstIsNew e w → FirstStruck e w e.taken asked
+undoes_none e w asked new = Restorable (ap (λ (log : Kept Change). undone log.items e.taken) new.first_log)
+
+pub facts_lent : (e : Errand) (t : TraversalState) (begin now : Counts) → IsTrusted e → t.walk.gate.done ≡ 2 → Facts e t None begin now → Facts e t (Some e.taken) begin now
+facts_lent e t begin now trusted gate facts =
+    relent e t None (Some e.taken) begin now First gate
+    (λ steps asked i. record { is = i.is; second = i.second; at = lends e t.walk steps asked trusted.clock i.at })
+    (λ asked i. record { geometry = i.geometry; second = i.second; stands = undoes_none e t.walk asked i.stands }) facts
+
+pub facts_given : (e : Errand) (t : TraversalState) (words : List ℕ) (begin now : Counts) → t.walk.gate.done ≡ 9 → Facts e t (Some words) begin now → Facts e t None begin now
+facts_given e t words begin now gate facts =
+    relent e t (Some words) None begin now Send gate
+    (λ steps asked i. record { is = i.is; time = i.time; made = i.made; end = i.end; answered = i.answered; index = i.index; words = tt; number = i.number })
+    (λ asked i. i) facts
+
+-- what is known without a strike is that it is on its way
+pub known_are_on_their_way : (e : Errand) (t : TraversalState) (lent : Option (List ℕ)) (begin now : Counts) → Facts e t lent begin now → OnWay e t lent begin now
+known_are_on_their_way e t lent begin now facts = record { later = facts.later; clean = λ none. (facts.unstruck none).clean }

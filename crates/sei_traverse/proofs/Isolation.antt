@@ -1,0 +1,309 @@
+-- One strike is isolated: what is known of a traversal is known behind each step.
+use Rattle.std.proofs.Common.{◌≡◌, ◌⊎◌, inl, inr, ℕ, suc, ◌+◌, ◌-◌, ◌^◌, ◌<◌, ◌≤◌, List, Option, sym, ◌∙◌, subst, refl, arith}
+use Rattle.mc_model.specs.declared.geometry.Geometry.{Geometry}
+use Rattle.sei_fault.specs.Counts.{Counts, Answered}
+use Rattle.sei_fault.specs.declared.place.Phase.{Phase}
+use Rattle.sei_fault.specs.declared.place.Phase.TheVariants.{Guard, Take, First, Restore, Second, Compare, Verify, Enter, Give, Send, Done as Last}
+use Rattle.sei_fault.specs.Phases.{phase_number}
+use Rattle.sei_fault.specs.Question.{Question, Answer, honestly_to}
+use Rattle.sei_fault.specs.StruckRuns.{StruckRun}
+use Rattle.sei_fault.specs.Tree.{Tree, Runs, any_core, honest, questions}
+use Rattle.sei_fault.proofs.Runs.{counted_runs, always}
+use Rattle.sei_fault.proofs.Strikes.{grows, never_falls}
+use Rattle.sei_fault.proofs.StruckRuns.{Counted, count}
+use Rattle.sei_fault.proofs.StruckRuns.Counted.{Clean as NoStrike, Once as OneStrike, More as MoreStrikes}
+use Rattle.sei_words.specs.Loan.{words_of, bucket_of, place_of}
+use Rattle.sei_words.specs.Words.{BucketWords}
+use Rattle.sei_traverse.specs.declared.turned.State.{State}
+use Rattle.sei_traverse.specs.declared.turned.State.TheVariants.{Went, Finished, Refused, Aborted}
+use Rattle.sei_traverse.specs.declared.turned.Want.TheVariants.{Nothing}
+use Rattle.sei_traverse.specs.declared.walk.Walk.{Walk}
+use Rattle.sei_traverse.specs.Errand.{Errand, Follows}
+use Rattle.sei_traverse.specs.Facts.{Knows, IsUnstruck, StruckCase, IsStruck, Facts, IsRight, LendsWanted, LendsOn, WantsBucket, Wanted, ClosesOnce, IsAborted, FactsAfter, IsLikeWalk, Isolates}
+use Rattle.sei_traverse.specs.Facts.ClosesOnce.{Stays}
+use Rattle.sei_traverse.specs.Facts.StruckCase.{Right, Lost}
+use Rattle.sei_traverse.specs.OnWay.{lent_words, TellsAs}
+use Rattle.sei_traverse.specs.Service.{Service, given_of}
+use Rattle.sei_traverse.specs.State.{TraversalState, one_more}
+use Rattle.sei_traverse.specs.Step.{Turn, turn, site_of, turn_tree, TimedTwice}
+use Rattle.sei_traverse.specs.Struck.{IsAimed}
+use Rattle.sei_traverse.specs.Trusted.{IsTrusted}
+use Rattle.sei_traverse.specs.Unstruck.{CleanIn}
+use Rattle.sei_traverse.proofs.HonestTurn.{unwanting}
+use Rattle.sei_traverse.proofs.Likeness.{struck_settles}
+use Rattle.sei_traverse.proofs.Onward.{left_of, given_with, answer_is, still_lent, one_more_at_most}
+use Rattle.sei_traverse.proofs.PhaseLaws.{PhaseLaws}
+use Rattle.sei_traverse.proofs.Settled.{settles, settles_end}
+use Rattle.sei_traverse.proofs.ActKeeps.{IsNoStore}
+use Rattle.sei_traverse.proofs.ClosesNext.{ClosesNext}
+use Rattle.sei_traverse.proofs.EdgeSteps.{Untouched, wanted_turn, edge_turn}
+use Rattle.sei_traverse.proofs.Lending.{same_words, closes_once, lends_on, wants_bucket}
+use Rattle.sei_traverse.proofs.LostSteps.{StaysLost, stays_lost}
+use Rattle.sei_traverse.proofs.StepEnds.{EndsWell, StruckStands, clean_gate, clean_sealed}
+use Rattle.sei_traverse.proofs.StepLaws.{StruckLaw, LostLaw, BothLaw, AnsweredLaw, CleanStands}
+use Rattle.sei_traverse.proofs.StruckSteps.{strikes_well, stays_clean, stays_well}
+
+-- What is known says nothing of the want.
+
+settles_aimed : (e : Errand) (w : Walk) → IsAimed e w → IsAimed e (unwanting w)
+settles_aimed e w a = record { fit = a.fit; wanted = a.wanted }
+
+settles_known : (e : Errand) (w : Walk) (p : Phase) → Knows e w p → Knows e (unwanting w) p
+settles_known e w Guard k = k
+settles_known e w Take k = k
+settles_known e w First k = settles_aimed e w k
+settles_known e w Restore k = settles_aimed e w k
+settles_known e w Second k = settles_aimed e w k
+settles_known e w Compare k = settles_aimed e w k
+settles_known e w Verify k = settles_aimed e w k
+settles_known e w Enter k = settles_aimed e w k
+settles_known e w Give k = settles_aimed e w k
+settles_known e w Send k = settles_aimed e w k
+settles_known e w Last k = settles_aimed e w k
+
+settles_case : (e : Errand) (w : Walk) (lent : Option (List ℕ)) (asked : ℕ) → StruckCase e w lent asked → StruckCase e (unwanting w) lent asked
+settles_case e w lent asked (Right gate stands) = Right gate (struck_settles e w Nothing asked lent w.place.phase stands)
+settles_case e w lent asked (Lost gate fit) = Lost gate fit
+
+-- A step is isolated where it ends well.
+
+-- the gate is the phase's, or the traversal is lost and stays so
+data GateIs (w : Walk) (x : Turn) : Type 0 where
+  IsRightly : IsRight w → GateIs w x
+  IsLost : (IsRight w → ⊥) → StaysLost w.gate.done x → GateIs w x
+
+module _ (e : Errand) (begin c d : Counts) (old new : TraversalState) (loan left : Option BucketWords) (asked more : ℕ)
+    (place : place_of left ≡ place_of loan) (geometry : new.geometry ≡ e.geometry) (sealed : new.walk.sealed ≡ e.sealed) (steps : new.steps ≤ suc old.steps)
+    (grown : d.asked < 2 ^ 128 - 1 → c.asked ≤ d.asked) (counted : c.asked < 2 ^ 128 - 1 → begin.asked + asked ≤ c.asked) (risen : d.asked < 2 ^ 128 - 1 → d.asked ≡ c.asked + more)
+    (lends : LendsWanted old.walk loan) (kept : IsNoStore old.walk.place.phase old.walk.place.index → new.walk.wanted ≡ old.walk.wanted)
+    (still : 7 ≤ old.walk.gate.done → IsRight old.walk → IsLikeWalk old.walk new.walk × (lent_words left ≡ lent_words loan)) where
+  abbrev lent : Option (List ℕ)
+  lent = left_of loan (words_of left)
+
+  lent_is : lent ≡ lent_words left
+  lent_is = still_lent loan left (words_of left) place refl
+
+  enough : (number : ℕ) → number ≤ asked + more → d.asked < 2 ^ 128 - 1 → begin.asked + number ≤ d.asked
+  enough number le m =
+      let before : c.asked ≤ d.asked = grown m in
+      let so_far : begin.asked + asked ≤ c.asked = counted (omega (arith, before, m)) in
+      let these : d.asked ≡ c.asked + more = risen m in
+      omega (arith, so_far, these, le)
+
+  -- what is wanted is so, and is wanted once; in both cases of the gate
+  isolates_so : (state : State) (number : ℕ) → number ≤ asked + more → FactsAfter e new (lent_words left) begin d state → Wanted e new.walk lent number new.walk.want →
+      ClosesNext e old.walk.gate.done new.walk (IsAborted state) → GateIs old.walk (turn new.walk (words_of left) state) → Isolates e old new loan left begin d new.walk.want state
+  isolates_so state number le goes wanted next (IsRightly right) =
+      let so : Wanted e new.walk (lent_words left) number new.walk.want = subst (λ (l : Option (List ℕ)). Wanted e new.walk l number new.walk.want) lent_is wanted in
+      let once : ClosesOnce e old.walk new.walk (IsAborted state) = closes_once e old.walk new.walk right loan left place lends kept (IsAborted state) next in
+      record {
+        goes = goes;
+        wants = record { asked = number; wanted = so; bucket = wants_bucket e old.walk new.walk right loan left place lends kept (IsAborted state) number once so; counted = enough number le };
+        once = once;
+        lends = lends_on e old.walk new.walk right loan left place lends kept state once;
+        lost = λ wrong. absurd (wrong right);
+        finishes = λ finished. right;
+        still = still;
+      }
+  isolates_so state number le goes wanted next (IsLost wrong stays) = record {
+    goes = goes;
+    wants = record {
+      asked = number;
+      wanted = subst (λ (l : Option (List ℕ)). Wanted e new.walk l number new.walk.want) lent_is wanted;
+      bucket = subst (WantsBucket e left) (sym stays.want) tt;
+      counted = enough number le;
+    };
+    once = Stays stays.gate stays.want;
+    lends = λ went. subst (LendsOn new.walk left) (sym stays.want) (λ right. absurd (stays.lost went right));
+    lost = λ was went right. stays.lost went right;
+    finishes = λ finished. absurd (stays.unfinished finished);
+    still = λ seven right. absurd (wrong right);
+  }
+
+  struck_after : d.struck ≡ begin.struck + 1 → (number : ℕ) → number ≤ asked + more → (state : State) → StruckStands e number new.walk lent state → FactsAfter e new (lent_words left) begin d state
+  struck_after fell number le Went stands = record {
+    later = omega (arith, fell);
+    unstruck = λ same. absurd (omega (arith, fell, same));
+    struck = λ h. record {
+      geometry = geometry;
+      sealed = sealed;
+      asked = number;
+      case = subst (λ (l : Option (List ℕ)). StruckCase e new.walk l number) lent_is stands;
+      counted = enough number le;
+    };
+  }
+  struck_after fell number le Finished stands = record { gate = stands.0; asked = number; answered = stands.1; counted = enough number le; unstruck = λ same. absurd (omega (arith, fell, same)) }
+  struck_after fell number le Refused stands = record { gate = stands; cause = inr (omega (arith, fell)) }
+  struck_after fell number le (Aborted abort) stands = omega (arith, fell)
+
+  clean_after : d.struck ≡ begin.struck → (number : ℕ) → number ≤ asked + more → (state : State) → CleanStands e (suc old.steps) number new.walk lent state → FactsAfter e new (lent_words left) begin d state
+  clean_after none number le Went stands = record {
+    later = omega (arith, none);
+    unstruck = λ same. record {
+      clean = record {
+        geometry = geometry;
+        asked = number;
+        clean = record {
+          in_phase = settles e new.walk new.walk.want (lent_words left) new.steps (suc old.steps) number new.walk.place.phase steps
+              (subst (λ (l : Option (List ℕ)). CleanIn e new.walk l (suc old.steps) number new.walk.place.phase) lent_is stands.0);
+        };
+        counted = enough number le;
+      };
+      knows = stands.1;
+    };
+    struck = λ h. absurd (omega (arith, none, h));
+  }
+  clean_after none number le Finished stands = record {
+    gate = stands.0;
+    asked = number;
+    answered = stands.1;
+    counted = enough number le;
+    unstruck = λ same. record { asked = number; finished = settles_end e new.walk new.walk.want new.steps (suc old.steps) number steps stands.2; counted = enough number le };
+  }
+  clean_after none number le Refused stands = record { gate = stands.0; cause = inl stands.1 }
+  clean_after none number le (Aborted abort) stands = absurd stands
+
+  isolates_struck : (state : State) → d.struck ≡ begin.struck + 1 → EndsWell e (StruckStands e) (left_of loan) old.walk.gate.done (asked + more) (turn new.walk (words_of left) state) →
+      GateIs old.walk (turn new.walk (words_of left) state) → Isolates e old new loan left begin d new.walk.want state
+  isolates_struck state fell h gate = isolates_so state h.wanting h.wanting_most (struck_after fell h.number h.most state h.state) h.wanted h.once gate
+
+  isolates_clean : (state : State) → d.struck ≡ begin.struck → EndsWell e (CleanStands e (suc old.steps)) (left_of loan) old.walk.gate.done (asked + more) (turn new.walk (words_of left) state) →
+      GateIs old.walk (turn new.walk (words_of left) state) → Isolates e old new loan left begin d new.walk.want state
+  isolates_clean state none h gate = isolates_so state h.wanting h.wanting_most (clean_after none h.number h.most state h.state) h.wanted h.once gate
+
+-- by the strikes before the step and in it
+module _ (e : Errand) (trusted : IsTrusted e) (laws : (phase : Phase) → (phase ≡ Guard → ⊥) → PhaseLaws e phase) (guard_struck : StruckLaw e Guard) (lost : LostLaw) (both : BothLaw e) (answered : AnsweredLaw e)
+    (begin c d : Counts) (old new : TraversalState) (loan left : Option BucketWords) (state : State) (now later : ℕ) (small : now < 2 ^ 64) (told : Follows e.clock now) (small_later : later < 2 ^ 64) (told_later : Follows e.clock later)
+    (run : Runs any_core (turn_tree (given_with e loan) now later old.walk (words_of loan)) c d (turn new.walk (words_of left) state))
+    (place : place_of left ≡ place_of loan) (geometry : new.geometry ≡ old.geometry) (steps : new.steps ≡ one_more old.steps) (sealed : new.walk.sealed ≡ old.walk.sealed)
+    (lends : LendsWanted old.walk loan) (facts : Facts e old (lent_words loan) begin c) (few : d.struck ≤ begin.struck + 1) where
+  abbrev v : Walk
+  v = unwanting old.walk
+
+  abbrev x : Turn
+  x = turn new.walk (words_of left) state
+
+  abbrev tree : Tree Turn
+  tree = turn_tree (given_with e loan) now later old.walk (words_of loan)
+
+  abbrev IsIsolated : Type 0
+  IsIsolated = Isolates e old new loan left begin d new.walk.want state
+
+  grown : d.asked < 2 ^ 128 - 1 → c.asked ≤ d.asked
+  grown = grows tree c d x run
+
+  steps_at_most : new.steps ≤ suc old.steps
+  steps_at_most = subst (λ (n : ℕ). n ≤ suc old.steps) (sym steps) (one_more_at_most old.steps)
+
+  -- what it wants is kept, but where that is stored
+  kept : IsNoStore old.walk.place.phase old.walk.place.index → new.walk.wanted ≡ old.walk.wanted
+  kept unstored = always any_core (λ (y : Turn). y.walk.wanted ≡ old.walk.wanted) tree c d x (wanted_turn (given_with e loan) now later old.walk (words_of loan) unstored) run
+
+  -- from Enter on, all but the place, the gate and the want is kept
+  still : 7 ≤ old.walk.gate.done → IsRight old.walk → IsLikeWalk old.walk new.walk × (lent_words left ≡ lent_words loan)
+  still seven right =
+      let u = always any_core (λ (y : Turn). Untouched old.walk (words_of loan) y.walk y.words) tree c d x (edge_turn (given_with e loan) now later old.walk (words_of loan) (omega (arith, seven, right))) run in
+      (u.0, same_words loan left place u.1)
+
+  -- nothing struck it before
+  module _ (unstruck : IsUnstruck e old (lent_words loan) begin c) where
+    abbrev asked : ℕ
+    asked = unstruck.clean.asked
+
+    clean : CleanIn e v (lent_words loan) old.steps asked old.walk.place.phase
+    clean = settles e old.walk Nothing (lent_words loan) old.steps old.steps asked old.walk.place.phase (omega arith) unstruck.clean.clean.in_phase
+
+    knows : Knows e v old.walk.place.phase
+    knows = settles_known e old.walk old.walk.place.phase unstruck.knows
+
+    gate : old.walk.gate.done ≡ phase_number old.walk.place.phase
+    gate = clean_gate e v (lent_words loan) old.steps asked old.walk.place.phase clean
+
+    seal : new.walk.sealed ≡ e.sealed
+    seal = sealed ∙ clean_sealed e v (lent_words loan) old.steps asked old.walk.place.phase clean
+
+    nor_now : d.struck ≡ begin.struck → x ≡ honest tree → (d.asked < 2 ^ 128 - 1 → d.asked ≡ c.asked + questions tree) → IsIsolated
+    nor_now none is risen =
+        let well = stays_clean e trusted laws guard_struck lost both answered now later small told small_later told_later loan v refl old.steps asked clean knows (lends gate) in
+        let there = subst (λ (y : Turn). EndsWell e (CleanStands e (suc old.steps)) (left_of loan) (phase_number old.walk.place.phase) (asked + questions tree) y) (sym is) well in
+        isolates_clean e begin c d old new loan left asked (questions tree) place (geometry ∙ unstruck.clean.geometry) seal steps_at_most grown unstruck.clean.counted risen lends kept still state none
+        (subst (λ (n : ℕ). EndsWell e (CleanStands e (suc old.steps)) (left_of loan) n (asked + questions tree) x) (sym gate) there) (IsRightly gate)
+
+    now_struck : d.struck ≡ begin.struck + 1 → (n : ℕ) → StruckRun tree x n → (d.asked < 2 ^ 128 - 1 → d.asked ≡ c.asked + n) → IsIsolated
+    now_struck fell n strikes risen =
+        let well = strikes_well e trusted laws guard_struck lost both answered now later small told small_later told_later loan v refl old.steps asked clean knows (lends gate) (site_of e.service v) x n strikes in
+        isolates_struck e begin c d old new loan left asked n place (geometry ∙ unstruck.clean.geometry) seal steps_at_most grown unstruck.clean.counted risen lends kept still state fell
+        (subst (λ (m : ℕ). EndsWell e (StruckStands e) (left_of loan) m (asked + n) x) (sym gate) well) (IsRightly gate)
+
+  -- it was struck before
+  was_struck : IsStruck e old (lent_words loan) begin c → d.struck ≡ begin.struck + 1 → x ≡ honest tree → (d.asked < 2 ^ 128 - 1 → d.asked ≡ c.asked + questions tree) → IsIsolated
+  was_struck struck fell is risen =
+      let case = settles_case e old.walk (lent_words loan) struck.asked struck.case in
+      let well = stays_well e laws lost now later small told loan v refl struck.asked struck.sealed case lends (site_of e.service v) in
+      isolates_struck e begin c d old new loan left struck.asked (questions tree) place (geometry ∙ struck.geometry) (sealed ∙ struck.sealed) steps_at_most grown struck.counted risen lends kept still state fell
+      (subst (λ (y : Turn). EndsWell e (StruckStands e) (left_of loan) old.walk.gate.done (struck.asked + questions tree) y) (sym is) well) (by_gate case)
+    where
+      by_gate : StruckCase e v (lent_words loan) struck.asked → GateIs old.walk x
+      by_gate (Right gate stands) = IsRightly gate
+      by_gate (Lost gate fit) = IsLost gate (subst (StaysLost old.walk.gate.done) (sym is) (stays_lost e laws lost now later loan v refl struck.sealed gate fit (site_of e.service v)))
+
+  struck_or : (c.struck ≡ begin.struck) ⊎ (c.struck ≡ begin.struck + 1)
+  struck_or = let later : begin.struck ≤ c.struck = facts.later in let fell : c.struck ≤ d.struck = never_falls tree c d x run in grind (arith, later, fell, few)
+
+  by_strikes : Counted tree x c d → (c.struck ≡ begin.struck) ⊎ (c.struck ≡ begin.struck + 1) → IsIsolated
+  by_strikes (NoStrike is none risen) (inl same) = nor_now (facts.unstruck same) (none ∙ same) is risen
+  by_strikes (NoStrike is none risen) (inr one) = was_struck (facts.struck one) (none ∙ one) is risen
+  by_strikes (OneStrike n strikes fell risen) (inl same) = now_struck (facts.unstruck same) (omega (arith, fell, same)) n strikes risen
+  by_strikes (OneStrike n strikes fell risen) (inr one) = absurd (omega (arith, fell, one, few))
+  by_strikes (MoreStrikes fell) (inl same) = absurd (omega (arith, fell, same, few))
+  by_strikes (MoreStrikes fell) (inr one) = absurd (omega (arith, fell, one, few))
+
+  -- what is known of a traversal is known behind each step, where at most one strike fell since it began
+  pub isolates : Isolates e old new loan left begin d new.walk.want state
+  isolates = by_strikes (count tree c d x run) struck_or
+
+-- what is known of a traversal that at most one strike struck, tells its geometry
+facts_geometry : (e : Errand) (t : TraversalState) (lent : Option (List ℕ)) (begin now : Counts) → Facts e t lent begin now → now.struck ≤ begin.struck + 1 → t.geometry ≡ e.geometry
+facts_geometry e t lent begin now facts few = by_strikes (struck_by begin.struck now.struck facts.later few)
+  where
+    struck_by : (b n : ℕ) → b ≤ n → n ≤ b + 1 → (n ≡ b) ⊎ (n ≡ b + 1)
+    struck_by b n later few = grind (arith, later, few)
+
+    by_strikes : (now.struck ≡ begin.struck) ⊎ (now.struck ≡ begin.struck + 1) → t.geometry ≡ e.geometry
+    by_strikes (inl same) = (facts.unstruck same).clean.geometry
+    by_strikes (inr one) = (facts.struck one).geometry
+
+-- for any core that keeps its law, and any clock that is the errand's, of a service and an input that are the errand's
+module _ (e : Errand) (trusted : IsTrusted e) (laws : (phase : Phase) → (phase ≡ Guard → ⊥) → PhaseLaws e phase) (guard_struck : StruckLaw e Guard) (lost : LostLaw) (both : BothLaw e) (answered : AnsweredLaw e) where
+  pub isolates_told : {S : Type 0} (gives : S → (q : Question) → Answer q → S → Type 0) (counts : S → Counts) →
+      ((s : S) (q : Question) (a : Answer q) (t : S) → gives s q a t → Answered (a ≡ honestly_to q) (counts s) (counts t)) →
+      (told : Option ℕ) (begin : Counts) (old new : TraversalState) (loan left : Option BucketWords) (state : State) (s t : S) →
+      TimedTwice gives told (λ now later. turn_tree (given_of e.service e.input old.geometry (bucket_of loan)) now later old.walk (words_of loan)) s t (turn new.walk (words_of left) state) →
+      place_of left ≡ place_of loan → new.geometry ≡ old.geometry → new.steps ≡ one_more old.steps → new.walk.sealed ≡ old.walk.sealed →
+      TellsAs e.clock told → LendsWanted old.walk loan → Facts e old (lent_words loan) begin (counts s) → (counts t).struck ≤ begin.struck + 1 →
+      Isolates e old new loan left begin (counts t) new.walk.want state
+  isolates_told gives counts law told begin old new loan left state s t turned place geometry steps sealed tells lends facts few =
+      let tree : Geometry → _ = λ g. turn_tree (given_of e.service e.input g (bucket_of loan)) turned.now turned.later old.walk (words_of loan) in
+      let x = turn new.walk (words_of left) state in
+      let run = counted_runs gives counts law (tree old.geometry) s t x turned.runs in
+      let fell = never_falls (tree old.geometry) (counts s) (counts t) x run in
+      let same = facts_geometry e old (lent_words loan) begin (counts s) facts (omega (arith, fell, few)) in
+      let run_on = subst (λ (g : Geometry). Runs any_core (tree g) (counts s) (counts t) x) same run in
+      let answer = answer_is e.clock told turned.now trusted.clock tells turned.answer in
+      let answer_later = answer_is e.clock told turned.later trusted.clock tells turned.answer_later in
+      isolates e trusted laws guard_struck lost both answered begin (counts s) (counts t) old new loan left state turned.now turned.later answer.0 answer.1 answer_later.0 answer_later.1 run_on place geometry steps sealed lends facts few
+
+  -- the same of a service and an input that are the errand's
+  pub isolates_given : {S : Type 0} (gives : S → (q : Question) → Answer q → S → Type 0) (counts : S → Counts) →
+      ((s : S) (q : Question) (a : Answer q) (t : S) → gives s q a t → Answered (a ≡ honestly_to q) (counts s) (counts t)) →
+      (told : Option ℕ) (begin : Counts) (old new : TraversalState) (loan left : Option BucketWords) (state : State) (s t : S) (service : Service) (input : List ℕ) →
+      e.service ≡ service → e.input ≡ input →
+      TimedTwice gives told (λ now later. turn_tree (given_of service input old.geometry (bucket_of loan)) now later old.walk (words_of loan)) s t (turn new.walk (words_of left) state) →
+      place_of left ≡ place_of loan → new.geometry ≡ old.geometry → new.steps ≡ one_more old.steps → new.walk.sealed ≡ old.walk.sealed →
+      TellsAs e.clock told → LendsWanted old.walk loan → Facts e old (lent_words loan) begin (counts s) → (counts t).struck ≤ begin.struck + 1 →
+      Isolates e old new loan left begin (counts t) new.walk.want state
+  isolates_given gives counts law told begin old new loan left state s t service input f h turned place geometry steps sealed tells lends facts few =
+      isolates_told gives counts law told begin old new loan left state s t
+      (subst (λ (x : Service). TimedTwice gives told (λ now later. turn_tree (given_of x e.input old.geometry (bucket_of loan)) now later old.walk (words_of loan)) s t (turn new.walk (words_of left) state)) (sym f)
+      (subst (λ (x : List ℕ). TimedTwice gives told (λ now later. turn_tree (given_of service x old.geometry (bucket_of loan)) now later old.walk (words_of loan)) s t (turn new.walk (words_of left) state)) (sym h) turned))
+      place geometry steps sealed tells lends facts few

@@ -1,0 +1,170 @@
+-- What is known of a traversal that was struck at most once since it began, at each of its steps.
+use Rattle.std.specs.Prelude.{◌≡◌, ◌≢◌, ℕ, ◌+◌, ◌-◌, ◌^◌, ◌<◌, ◌≤◌, ◌⊎◌, false, List, [], Option, Some, None, ⊤}
+use Rattle.sei_fault.specs.Counts.{Counts}
+use Rattle.sei_fault.specs.Phases.{phase_number}
+use Rattle.sei_fault.specs.declared.place.Phase.{Phase}
+use Rattle.sei_fault.specs.declared.place.Phase.TheVariants.{Guard, Take, Enter, Give, Send, Done as Last}
+use Rattle.sei_words.specs.Words.{BucketWords}
+use Rattle.sei_pass.specs.Setting.{is_intact}
+use Rattle.sei_traverse.specs.declared.turned.State.{State}
+use Rattle.sei_traverse.specs.declared.turned.State.TheVariants.{Went, Finished, Refused, Aborted}
+use Rattle.sei_traverse.specs.declared.turned.Want.{Want}
+use Rattle.sei_traverse.specs.declared.turned.Want.TheVariants.{Nothing, Take as WantTake, Enter as WantEnter, Give as WantGive, Send as WantSend}
+use Rattle.sei_traverse.specs.declared.walk.Walk.{Walk}
+use Rattle.sei_traverse.specs.Errand.{Errand, given_in}
+use Rattle.sei_traverse.specs.OnWay.{lent_words, LendsBucket, IsClean, IsCleanEnd}
+use Rattle.sei_traverse.specs.Phases.{reply_of, send_want}
+use Rattle.sei_traverse.specs.Service.{has_sealed_call}
+use Rattle.sei_traverse.specs.State.{TraversalState}
+use Rattle.sei_traverse.specs.Struck.{IsAimed, Answers, On, SendStruck, StruckIn}
+use Rattle.sei_traverse.specs.Trusted.{IsFit}
+
+-- behind Guard the input is known to be fit, and behind Take the wanted bucket to be the call's
+abbrev pub Knows : Errand → Walk → Phase → Type 0
+Knows e w Guard = ⊤
+Knows e w Take = IsFit e
+Knows e w phase = IsAimed e w
+
+-- nothing struck it
+pub record IsUnstruck (e : Errand) (t : TraversalState) (lent : Option (List ℕ)) (begin now : Counts) : Type 0 where
+  pub clean : IsClean e t lent begin now
+  pub knows : Knows e t.walk t.walk.place.phase
+
+-- the gate closed as many phases as stand before the walk's phase; or another number of them, and then no phase is closed
+-- any more. A lost traversal in Guard has a fit input, and so is not refused there
+pub data StruckCase (e : Errand) (w : Walk) (lent : Option (List ℕ)) (asked : ℕ) : Type 0 where
+  Right : w.gate.done ≡ phase_number w.place.phase → StruckIn e w lent asked w.place.phase → StruckCase e w lent asked
+  Lost : w.gate.done ≢ phase_number w.place.phase → (w.place.phase ≡ Guard → IsFit e) → StruckCase e w lent asked
+
+-- one strike fell, and so many questions were asked at least
+pub record IsStruck (e : Errand) (t : TraversalState) (lent : Option (List ℕ)) (begin now : Counts) : Type 0 where
+  pub geometry : t.geometry ≡ e.geometry
+  pub sealed : t.walk.sealed ≡ e.sealed
+  pub asked : ℕ
+  pub case : StruckCase e t.walk lent asked
+  pub counted : now.asked < 2 ^ 128 - 1 → begin.asked + asked ≤ now.asked
+
+-- what is known, with these words lent, and these counts when it began and now
+pub record Facts (e : Errand) (t : TraversalState) (lent : Option (List ℕ)) (begin now : Counts) : Type 0 where
+  pub later : begin.struck ≤ now.struck
+  pub unstruck : now.struck ≡ begin.struck → IsUnstruck e t lent begin now
+  pub struck : now.struck ≡ begin.struck + 1 → IsStruck e t lent begin now
+
+-- the caller lends the wanted bucket from the want of Take to the want of Give, and no other words
+
+abbrev pub LendsBucketOf : ℕ → Option BucketWords → Type 0
+LendsBucketOf wanted None = ⊥
+LendsBucketOf wanted (Some b) = b.bucket ≡ wanted
+
+abbrev pub LendsIn : ℕ → Phase → Option BucketWords → Type 0
+LendsIn wanted Guard loan = loan ≡ None
+LendsIn wanted Take loan = loan ≡ None
+LendsIn wanted Send loan = loan ≡ None
+LendsIn wanted Last loan = loan ≡ None
+LendsIn wanted phase loan = LendsBucketOf wanted loan
+
+-- the gate closed as many phases as stand before the walk's own
+abbrev pub IsRight : Walk → Type 0
+IsRight w = w.gate.done ≡ phase_number w.place.phase
+
+-- nothing is asked of the caller where the gate is not the phase's
+abbrev pub LendsWanted : Walk → Option BucketWords → Type 0
+LendsWanted w loan = IsRight w → LendsIn w.wanted w.place.phase loan
+
+-- what the caller lends next, where it follows the wants: behind the want of Take the wanted bucket, behind that of Give no
+-- words, and else what is left of the loan
+abbrev pub LendsOn : Walk → Option BucketWords → Want → Type 0
+LendsOn w left (WantTake bucket) = (b : BucketWords) → b.bucket ≡ bucket → LendsWanted w (Some b)
+LendsOn w left WantGive = LendsWanted w None
+LendsOn w left want = LendsWanted w left
+
+-- where Enter or Give is wanted, the lent bucket is the call's
+abbrev pub WantsBucket : Errand → Option BucketWords → Want → Type 0
+WantsBucket e loan WantEnter = LendsBucket e loan
+WantsBucket e loan WantGive = LendsBucket e loan
+WantsBucket e loan want = ⊤
+
+-- what is so where this is wanted: the bucket is there; the words and the reply are those of an honest run; the copy for
+-- the wire is the reply
+abbrev pub Wanted : Errand → Walk → Option (List ℕ) → ℕ → Want → Type 0
+Wanted e w lent asked Nothing = ⊤
+Wanted e w lent asked (WantTake bucket) = (bucket ≡ w.wanted) × (bucket < e.geometry.buckets)
+Wanted e w lent asked WantEnter = On lent (λ words. Answers e w words asked)
+Wanted e w lent asked WantGive = On lent (λ words. Answers e w words asked)
+Wanted e w lent asked WantSend = SendStruck e w asked × (reply_of w ≢ [])
+
+-- what is wanted where a phase is closed
+abbrev pub closing_want : Walk → Phase → Want
+closing_want w Take = WantTake w.wanted
+closing_want w Enter = WantEnter
+closing_want w Give = WantGive
+closing_want w Send = send_want (reply_of w)
+closing_want w phase = Nothing
+
+-- from the old walk to the new one no phase was closed, and nothing is wanted; or the phase of the old place was closed,
+-- which was the next one, and what is wanted there; or Take was closed and the wanted bucket is not there, and so it ended.
+-- As the number never falls, each is wanted at most once, and where it has passed 8, 9 and 10, Enter and Give were wanted,
+-- and Send where the reply is not empty
+pub data ClosesOnce (e : Errand) (old new : Walk) (ended : Type 0) : Type 0 where
+  Stays : new.gate.done ≡ old.gate.done → new.want ≡ Nothing → ClosesOnce e old new ended
+  Closes : (phase : Phase) → old.place.phase ≡ phase → old.gate.done ≡ phase_number phase → new.gate.done ≡ old.gate.done + 1 → new.want ≡ closing_want new phase → ClosesOnce e old new ended
+  Lacks : old.gate.done ≡ 1 → new.gate.done ≡ 2 → new.want ≡ Nothing → e.geometry.buckets ≤ new.wanted → ended → ClosesOnce e old new ended
+
+-- the step aborts
+abbrev pub IsAborted : State → Type 0
+IsAborted (Aborted abort) = ⊤
+IsAborted state = ⊥
+
+-- what must hold where it wants that, holds
+pub record Wants (e : Errand) (t : TraversalState) (left : Option BucketWords) (begin now : Counts) (want : Want) : Type 0 where
+  pub asked : ℕ
+  pub wanted : Wanted e t.walk (lent_words left) asked want
+  pub bucket : WantsBucket e left want
+  pub counted : now.asked < 2 ^ 128 - 1 → begin.asked + asked ≤ now.asked
+
+-- it is finished: all phases are closed, so Enter and Give were wanted, and Send where the reply is not empty; and without
+-- a strike it is at its clean end
+pub record IsAtEnd (e : Errand) (t : TraversalState) (begin now : Counts) : Type 0 where
+  pub gate : t.walk.gate.done ≡ 11
+  pub asked : ℕ
+  pub answered : SendStruck e t.walk asked
+  pub counted : now.asked < 2 ^ 128 - 1 → begin.asked + asked ≤ now.asked
+  pub unstruck : now.struck ≡ begin.struck → IsCleanEnd e t begin now
+
+-- the input does not pass the tests of Guard
+abbrev pub IsUnfitInput : Errand → Type 0
+IsUnfitInput e = (is_intact e.sealed e.input ≡ false) ⊎ (has_sealed_call (given_in e) e.sealed ≡ false)
+
+-- it was refused before Take was wanted, for its input or for a strike
+pub record IsRefused (e : Errand) (t : TraversalState) (begin now : Counts) : Type 0 where
+  pub gate : t.walk.gate.done ≤ 1
+  pub cause : IsUnfitInput e ⊎ (begin.struck < now.struck)
+
+abbrev pub FactsAfter : Errand → TraversalState → Option (List ℕ) → Counts → Counts → State → Type 0
+FactsAfter e t lent begin now Went = Facts e t lent begin now
+FactsAfter e t lent begin now Finished = IsAtEnd e t begin now
+FactsAfter e t lent begin now Refused = IsRefused e t begin now
+FactsAfter e t lent begin now (Aborted abort) = begin.struck < now.struck
+
+-- the walks have sealed the same, want the same bucket, and have the same passes, logs, notes and copy for the wire
+pub record IsLikeWalk (old new : Walk) : Type 0 where
+  pub sealed : new.sealed ≡ old.sealed
+  pub wanted : new.wanted ≡ old.wanted
+  pub first : new.first ≡ old.first
+  pub second : new.second ≡ old.second
+  pub first_log : new.first_log ≡ old.first_log
+  pub second_log : new.second_log ≡ old.second_log
+  pub notes : new.notes ≡ old.notes
+  pub wire : new.wire ≡ old.wire
+
+-- a step keeps what is known; what must hold where it wants that, holds, and is wanted once; a caller who lends what was
+-- wanted lends it again where it follows the wants; what is lost stays lost, and does not finish; and from the step of
+-- Enter on, the words that are lent and the reply stay as they are
+pub record Isolates (e : Errand) (old new : TraversalState) (loan left : Option BucketWords) (begin now : Counts) (want : Want) (state : State) : Type 0 where
+  pub goes : FactsAfter e new (lent_words left) begin now state
+  pub wants : Wants e new left begin now want
+  pub once : ClosesOnce e old.walk new.walk (IsAborted state)
+  pub lends : state ≡ Went → LendsOn new.walk left want
+  pub lost : (IsRight old.walk → ⊥) → state ≡ Went → IsRight new.walk → ⊥
+  pub finishes : state ≡ Finished → IsRight old.walk
+  pub still : 7 ≤ old.walk.gate.done → IsRight old.walk → IsLikeWalk old.walk new.walk × (lent_words left ≡ lent_words loan)

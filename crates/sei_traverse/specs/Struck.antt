@@ -1,0 +1,198 @@
+-- Where a traversal stands that was struck once, and whose gate closed as many phases as stand before its own.
+use Rattle.std.specs.Prelude.{◌≡◌, ◌≢◌, ℕ, ◌-◌, ◌<◌, ◌≤◌, List, length, take, Option, Some, None, slice_get}
+use Rattle.sei_code.specs.Coded.{sealed}
+use Rattle.sei_code.specs.Kept.{Kept, empty_kept}
+use Rattle.sei_fault.specs.declared.place.Phase.{Phase}
+use Rattle.sei_fault.specs.declared.place.Phase.TheVariants.{Guard, Take, First, Restore, Second, Compare, Verify, Enter, Give, Send, Done as Last}
+use Rattle.sei_log.specs.Changes.{undone, applied, Stands, SameOff}
+use Rattle.sei_log.specs.declared.log.Change.{Change}
+use Rattle.sei_log.specs.declared.notes.Notes.{Notes}
+use Rattle.sei_stmt.specs.Asked.{first_asked}
+use Rattle.sei_stmt.specs.Honest.{after, HonestRun}
+use Rattle.sei_stmt.specs.Machine.{Machine, Setting, Outcome}
+use Rattle.sei_stmt.specs.Machine.Outcome.{Next, Halted}
+use Rattle.sei_stmt.specs.Passes.{notes_of}
+use Rattle.sei_pass.specs.declared.given.Which.TheVariants.{Reading}
+use Rattle.sei_pass.specs.State.{new_pass}
+use Rattle.sei_pass.specs.Steps.{machine_of}
+use Rattle.sei_traverse.specs.declared.walk.Walk.{Walk}
+use Rattle.sei_traverse.specs.Comes.{renoted, Comes}
+use Rattle.sei_traverse.specs.Errand.{Errand, first_setting, first_start, Follows, Whole}
+use Rattle.sei_traverse.specs.PassActs.{pass_of, first_machine, second_machine}
+use Rattle.sei_traverse.specs.Phases.{reply_of}
+use Rattle.sei_traverse.specs.Service.{given_of, setting_in}
+use Rattle.sei_traverse.specs.Trusted.{IsFit, second_setting}
+use Rattle.sei_traverse.specs.Unstruck.{FirstIsNew, SecondIsNew, FirstIsDone, first_questions}
+use Rattle.sei_traverse.specs.Walks.{log_room}
+
+-- the machine with this log in the place of its own
+abbrev pub relogged : Kept Change → Machine → Machine
+relogged log m = record m { log = log }
+
+-- the input is fit, and the wanted bucket is the call's
+pub record IsAimed (e : Errand) (w : Walk) : Type 0 where
+  pub fit : IsFit e
+  pub wanted : w.wanted ≡ e.call.bucket
+
+-- what holds of each traversal that comes to Enter: the words and the reply are those that an honest run on the
+-- words that were taken leaves, by the noted time and some slot, and at least as many questions were asked as it asks
+pub record Answers (e : Errand) (w : Walk) (words : List ℕ) (asked : ℕ) : Type 0 where
+  pub aimed : IsAimed e w
+  pub time : ℕ
+  pub slot : ℕ
+  pub end : Machine
+  pub made : ℕ
+  pub noted : w.notes.now ≡ Some (sealed time)
+  pub run : HonestRun (second_setting e) (renoted (notes_of time slot) (first_start e)) end made
+  pub words_are : words ≡ end.words
+  pub reply : reply_of w ≡ end.bytes.items
+  pub questions : first_asked (second_setting e) (renoted (notes_of time slot) (first_start e)) made ≤ asked
+
+-- the first pass
+
+-- one old word was misread, and logged so: but for its log all is as in an honest pass, whose log is not longer than this
+-- one
+pub record IsMisread (e : Errand) (w : Walk) (words : List ℕ) (asked : ℕ) : Type 0 where
+  pub aimed : IsAimed e w
+  pub log : Kept Change
+  pub room : log.room ≡ w.first_log.room
+  pub fewer : length log.items ≤ length w.first_log.items
+  pub made : ℕ
+  pub number : ℕ
+  pub comes : Comes (first_setting e) (first_start e) made (record { machine = relogged log (first_machine w words); outcome = Next w.place.index }) number
+  pub told : Follows e.clock comes.time
+  pub applies : applied w.first_log.items e.taken ≡ words
+  pub off : SameOff w.first_log.items words e.taken
+  pub questions : number ≤ asked
+
+-- the log undoes all that it changed, or one old word in it was misread
+pub data FirstStruck (e : Errand) (w : Walk) (words : List ℕ) (asked : ℕ) : Type 0 where
+  Restorable : undone w.first_log.items words ≡ e.taken → FirstStruck e w words asked
+  Misread : IsMisread e w words asked → FirstStruck e w words asked
+
+-- before the bucket is lent, nothing was made
+abbrev pub FirstStands : Errand → Walk → Option (List ℕ) → ℕ → Type 0
+FirstStands e w None asked = FirstIsNew e w
+FirstStands e w (Some words) asked = FirstStruck e w words asked
+
+pub record StruckInFirst (e : Errand) (w : Walk) (lent : Option (List ℕ)) (asked : ℕ) : Type 0 where
+  pub geometry : w.first.geometry ≡ e.geometry
+  pub second : SecondIsNew e w
+  pub stands : FirstStands e w lent asked
+
+-- before it
+
+pub record StruckInTake (e : Errand) (w : Walk) : Type 0 where
+  pub first : FirstIsNew e w
+  pub second : SecondIsNew e w
+
+-- the restoration
+
+-- the first pass was honest, and ended with this machine
+pub record WasHonest (e : Errand) (w : Walk) (end : Machine) (asked : ℕ) : Type 0 where
+  pub aimed : IsAimed e w
+  pub time : ℕ
+  pub made : ℕ
+  pub whole : Whole e time made end
+  pub first : FirstIsDone e w end
+  pub questions : first_questions e time made ≤ asked
+
+-- it was honest but for one old word in its log
+pub record WasMisread (e : Errand) (w : Walk) (end : Machine) (asked : ℕ) : Type 0 where
+  pub aimed : IsAimed e w
+  pub time : ℕ
+  pub made : ℕ
+  pub whole : Whole e time made end
+  pub first : w.first ≡ pass_of (new_pass e.geometry) end
+  pub notes : w.notes ≡ end.notes
+  pub applies : applied w.first_log.items e.taken ≡ end.words
+  pub questions : first_questions e time made ≤ asked
+
+-- the changes that are still to be undone
+abbrev pub pending : Walk → List Change
+pending w = take (length w.first_log.items - w.place.index) w.first_log.items
+
+-- undoing what is pending gives the words that were taken; or the first log has a misread word; or a change that is not
+-- pending was not undone
+pub data RestoreStruck (e : Errand) (w : Walk) (words : List ℕ) (asked : ℕ) : Type 0 where
+  Restorable : undone (pending w) words ≡ e.taken → RestoreStruck e w words asked
+  Misread : (end : Machine) → WasMisread e w end asked → SameOff w.first_log.items words e.taken → RestoreStruck e w words asked
+  Damaged : (end : Machine) → WasHonest e w end asked → (place : ℕ) (c : Change) → Stands w.first_log.items place c →
+      length w.first_log.items - w.place.index ≤ place → slice_get words c.address ≢ Some c.was → RestoreStruck e w words asked
+
+-- the second pass
+
+-- where a pass starts, on these words and by these notes
+abbrev pub start_on : Errand → List ℕ → Notes → Machine
+start_on e words notes = machine_of (new_pass e.geometry) words (empty_kept Change (log_room e.geometry)) notes
+
+-- the setting of a second pass for which this bucket is lent
+abbrev pub setting_on : Errand → ℕ → Setting
+setting_on e bucket = setting_in (given_of e.service e.input e.geometry (Some bucket)) Reading e.sealed 0
+
+-- an honest second pass on these words, by the walk's notes, has come to where the walk stands
+abbrev pub ComesOn : Errand → Walk → List ℕ → List ℕ → Outcome → ℕ → Type 0
+ComesOn e w found words o n = after (setting_on e w.wanted) (start_on e found w.notes) n ≡ record { machine = second_machine w words; outcome = o }
+
+-- it is honest on the words that were taken; or on words that differ from them; or it was struck itself, and the first one was honest
+pub data SecondStruck (e : Errand) (w : Walk) (words : List ℕ) (o : Outcome) (asked : ℕ) : Type 0 where
+  Good : (n : ℕ) → ComesOn e w e.taken words o n → first_asked (setting_on e w.wanted) (start_on e e.taken w.notes) n ≤ asked → SecondStruck e w words o asked
+  Misread : (end : Machine) → WasMisread e w end asked → (found : List ℕ) → SameOff w.first_log.items found e.taken → (n : ℕ) → ComesOn e w found words o n → SecondStruck e w words o asked
+  Damaged : (end : Machine) → WasHonest e w end asked → (place : ℕ) (c : Change) → Stands w.first_log.items place c →
+      (found : List ℕ) → slice_get found c.address ≢ Some c.was → (n : ℕ) → ComesOn e w found words o n → SecondStruck e w words o asked
+  Struck : (end : Machine) → WasHonest e w end asked → SameOff w.second_log.items words e.taken → SecondStruck e w words o asked
+
+-- the comparison
+
+-- all is well already; or the second pass ended as it may, and the changes below the index are the same in both logs
+pub data CompareStruck (e : Errand) (w : Walk) (words : List ℕ) (asked : ℕ) : Type 0 where
+  Fine : Answers e w words asked → CompareStruck e w words asked
+  Doubt : SecondStruck e w words Halted asked →
+      ((place : ℕ) → place < w.place.index → slice_get w.first_log.items place ≡ slice_get w.second_log.items place) → CompareStruck e w words asked
+
+-- the reading back
+
+-- the second pass was struck, and came to the log and the output of the first; so many words hold what its log says
+pub record IsDoubted (e : Errand) (w : Walk) (words : List ℕ) (asked : ℕ) : Type 0 where
+  pub end : Machine
+  pub was : WasHonest e w end asked
+  pub off : SameOff w.second_log.items words e.taken
+  pub logs : w.first_log.items ≡ w.second_log.items
+  pub read : (place : ℕ) (c : Change) → place < w.place.index → Stands w.second_log.items place c → slice_get words c.address ≡ Some c.becomes
+
+pub data WordsStruck (e : Errand) (w : Walk) (words : List ℕ) (asked : ℕ) : Type 0 where
+  Fine : Answers e w words asked → WordsStruck e w words asked
+  Doubt : IsDoubted e w words asked → WordsStruck e w words asked
+
+pub record VerifyStruck (e : Errand) (w : Walk) (words : List ℕ) (asked : ℕ) : Type 0 where
+  pub stand : WordsStruck e w words asked
+  pub outputs : w.first.bytes.items ≡ reply_of w
+
+-- behind them
+
+pub record EnterStruck (e : Errand) (w : Walk) (words : List ℕ) (asked : ℕ) : Type 0 where
+  pub answers : Answers e w words asked
+  pub wire : w.wire.items ≡ reply_of w
+
+pub record SendStruck (e : Errand) (w : Walk) (asked : ℕ) : Type 0 where
+  pub words : List ℕ
+  pub answered : EnterStruck e w words asked
+
+-- words are lent, and this is so of them
+abbrev pub On : Option (List ℕ) → (List ℕ → Type 0) → Type 0
+On None holds = ⊥
+On (Some words) holds = holds words
+
+-- the cases, by phase. In Guard none stands: a strike there leads out of it, or to another number of closed phases
+abbrev pub StruckIn : Errand → Walk → Option (List ℕ) → ℕ → Phase → Type 0
+StruckIn e w lent asked Guard = ⊥
+StruckIn e w lent asked Take = StruckInTake e w
+StruckIn e w lent asked First = StruckInFirst e w lent asked
+StruckIn e w lent asked Restore = (SecondIsNew e w) × On lent (λ words. RestoreStruck e w words asked)
+StruckIn e w lent asked Second = On lent (λ words. SecondStruck e w words (Next w.place.index) asked)
+StruckIn e w lent asked Compare = On lent (λ words. CompareStruck e w words asked)
+StruckIn e w lent asked Verify = On lent (λ words. VerifyStruck e w words asked)
+StruckIn e w lent asked Enter = On lent (λ words. EnterStruck e w words asked)
+StruckIn e w lent asked Give = On lent (λ words. EnterStruck e w words asked)
+StruckIn e w lent asked Send = SendStruck e w asked
+StruckIn e w lent asked Last = SendStruck e w asked
