@@ -10,7 +10,7 @@ use Rattle.mc_model.specs.Server.{Server, server_answer}
 use Rattle.sei_main.specs.History.{Entry}
 use Rattle.sei_main.specs.Own.{own_entries, AreCounted, calls_in, message_of, messages_of}
 use Rattle.sei_main.specs.Events.{Event, Sent, Closed, entry_in, entries_of, message_in, sent_to}
-use Rattle.sei_main.specs.State.{clock_answer, entry_for, entry_events, answers, closed_events}
+use Rattle.sei_main.specs.State.{entry_for, entry_events, answers, closed_events}
 
 -- the events that send these messages
 abbrev pub sending : ℕ → List (List ℕ) → List Event
@@ -49,63 +49,63 @@ pub sent_append : (c : ℕ) (xs ys : List Event) → sent_to c (xs ++ ys) ≡ se
 sent_append c xs ys = flat_map-append (message_in c) xs ys
 
 -- what the answers to these calls make
-abbrev events : ℕ → ℕ → Server → List Placed → List Event
-events c n server ps = (answers c n server ps).1
+abbrev events : ℕ → ℕ → ℕ → Server → List Placed → List Event
+events time c n server ps = (answers time c n server ps).1
 
-pub calls_answered : (c n : ℕ) (server : Server) (ps : List Placed) → calls_in (entries_of (answers c n server ps).1) ≡ ps
-calls_answered c n server [] = refl
-calls_answered c n server (p ∷ ps) =
-    let a = server_answer server clock_answer p in
-    ap calls_in (entries_answered (entry_for c n p a.1) (events c (n + 1) a.0 ps)) ∙ ap (λ (x : List Placed). p ∷ x) (calls_answered c (n + 1) a.0 ps)
+pub calls_answered : (time c n : ℕ) (server : Server) (ps : List Placed) → calls_in (entries_of (answers time c n server ps).1) ≡ ps
+calls_answered time c n server [] = refl
+calls_answered time c n server (p ∷ ps) =
+    let a = server_answer server time p in
+    ap calls_in (entries_answered (entry_for time c n p a.1) (events time c (n + 1) a.0 ps)) ∙ ap (λ (x : List Placed). p ∷ x) (calls_answered time c (n + 1) a.0 ps)
 
-pub counted_answered : (c n : ℕ) (server : Server) (ps : List Placed) → AreCounted n (entries_of (answers c n server ps).1)
-counted_answered c n server [] = tt
-counted_answered c n server (p ∷ ps) =
-    let a = server_answer server clock_answer p in
-    subst (AreCounted n) (sym (entries_answered (entry_for c n p a.1) (events c (n + 1) a.0 ps))) (refl, counted_answered c (n + 1) a.0 ps)
+pub counted_answered : (time c n : ℕ) (server : Server) (ps : List Placed) → AreCounted n (entries_of (answers time c n server ps).1)
+counted_answered time c n server [] = tt
+counted_answered time c n server (p ∷ ps) =
+    let a = server_answer server time p in
+    subst (AreCounted n) (sym (entries_answered (entry_for time c n p a.1) (events time c (n + 1) a.0 ps))) (refl, counted_answered time c (n + 1) a.0 ps)
 
 -- the connection is sent its messages,
-pub sent_answered : (c n : ℕ) (server : Server) (ps : List Placed) → sent_to c (answers c n server ps).1 ≡ messages_of (entries_of (answers c n server ps).1)
-sent_answered c n server [] = refl
-sent_answered c n server (p ∷ ps) =
-    let a = server_answer server clock_answer p in
-    let later = events c (n + 1) a.0 ps in
-    sent_append c (entry_events (entry_for c n p a.1)) later
+pub sent_answered : (time c n : ℕ) (server : Server) (ps : List Placed) → sent_to c (answers time c n server ps).1 ≡ messages_of (entries_of (answers time c n server ps).1)
+sent_answered time c n server [] = refl
+sent_answered time c n server (p ∷ ps) =
+    let a = server_answer server time p in
+    let later = events time c (n + 1) a.0 ps in
+    sent_append c (entry_events (entry_for time c n p a.1)) later
     ∙ ap (λ (m : List (List ℕ)). m ++ sent_to c later) (sending_same c (message_of a.1))
-    ∙ ap (λ (m : List (List ℕ)). message_of a.1 ++ m) (sent_answered c (n + 1) a.0 ps)
-    ∙ sym (ap messages_of (entries_answered (entry_for c n p a.1) later))
+    ∙ ap (λ (m : List (List ℕ)). message_of a.1 ++ m) (sent_answered time c (n + 1) a.0 ps)
+    ∙ sym (ap messages_of (entries_answered (entry_for time c n p a.1) later))
 
 -- and no other one is
-pub sent_others : (c d n : ℕ) (server : Server) (ps : List Placed) → c ≢ d → sent_to d (answers c n server ps).1 ≡ []
-sent_others c d n server [] h = refl
-sent_others c d n server (p ∷ ps) h =
-    let a = server_answer server clock_answer p in
-    let later = events c (n + 1) a.0 ps in
-    sent_append d (entry_events (entry_for c n p a.1)) later
+pub sent_others : (time c d n : ℕ) (server : Server) (ps : List Placed) → c ≢ d → sent_to d (answers time c n server ps).1 ≡ []
+sent_others time c d n server [] h = refl
+sent_others time c d n server (p ∷ ps) h =
+    let a = server_answer server time p in
+    let later = events time c (n + 1) a.0 ps in
+    sent_append d (entry_events (entry_for time c n p a.1)) later
     ∙ ap (λ (m : List (List ℕ)). m ++ sent_to d later) (sending_other c d (message_of a.1) h)
-    ∙ sent_others c d (n + 1) a.0 ps h
+    ∙ sent_others time c d (n + 1) a.0 ps h
 
-pub own_answered : (c n : ℕ) (server : Server) (ps : List Placed) → own_entries c (entries_of (answers c n server ps).1) ≡ entries_of (answers c n server ps).1
-own_answered c n server [] = refl
-own_answered c n server (p ∷ ps) =
-    let a = server_answer server clock_answer p in
-    let later = entries_of (events c (n + 1) a.0 ps) in
-    let e = entry_for c n p a.1 in
-    let front = entries_answered e (events c (n + 1) a.0 ps) in
+pub own_answered : (time c n : ℕ) (server : Server) (ps : List Placed) → own_entries c (entries_of (answers time c n server ps).1) ≡ entries_of (answers time c n server ps).1
+own_answered time c n server [] = refl
+own_answered time c n server (p ∷ ps) =
+    let a = server_answer server time p in
+    let later = entries_of (events time c (n + 1) a.0 ps) in
+    let e = entry_for time c n p a.1 in
+    let front = entries_answered e (events time c (n + 1) a.0 ps) in
     ap (own_entries c) front
     ∙ ap (λ (t : Bool). if t then e ∷ own_entries c later else own_entries c later) (same_true c)
-    ∙ ap (λ (es : List Entry). e ∷ es) (own_answered c (n + 1) a.0 ps)
+    ∙ ap (λ (es : List Entry). e ∷ es) (own_answered time c (n + 1) a.0 ps)
     ∙ sym front
 
-pub own_others : (c d n : ℕ) (server : Server) (ps : List Placed) → c ≢ d → own_entries d (entries_of (answers c n server ps).1) ≡ []
-own_others c d n server [] h = refl
-own_others c d n server (p ∷ ps) h =
-    let a = server_answer server clock_answer p in
-    let later = entries_of (events c (n + 1) a.0 ps) in
-    let e = entry_for c n p a.1 in
-    ap (own_entries d) (entries_answered e (events c (n + 1) a.0 ps))
+pub own_others : (time c d n : ℕ) (server : Server) (ps : List Placed) → c ≢ d → own_entries d (entries_of (answers time c n server ps).1) ≡ []
+own_others time c d n server [] h = refl
+own_others time c d n server (p ∷ ps) h =
+    let a = server_answer server time p in
+    let later = entries_of (events time c (n + 1) a.0 ps) in
+    let e = entry_for time c n p a.1 in
+    ap (own_entries d) (entries_answered e (events time c (n + 1) a.0 ps))
     ∙ ap (λ (t : Bool). if t then e ∷ own_entries d later else own_entries d later) (other_false c d h)
-    ∙ own_others c d (n + 1) a.0 ps h
+    ∙ own_others time c d (n + 1) a.0 ps h
 
 -- that a connection closes is no entry and no message
 pub entries_closed : (events : List Event) (c : ℕ) (closes : Bool) → entries_of (events ++ closed_events c closes) ≡ entries_of events

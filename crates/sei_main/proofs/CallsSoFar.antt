@@ -1,35 +1,27 @@
 -- The calls of a request, answered one by one.
 use Rattle.std.proofs.Common.{◌≡◌, ℕ, zero, suc, ◌+◌, ◌≤◌, ◌<◌, Bool, true, false, List, [], ◌∷◌, ◌++◌, length, drop, refl, ap, sym, ◌∙◌, arith, Option, Some, None}
-use Rattle.std.specs.Prelude.{if◌then◌else◌, slice_get}
+use Rattle.std.specs.Prelude.{slice_get}
 use Rattle.std.specs.Io.KnownBytes.{append_known}
 use mir.Val.{bool_byte}
-use Rattle.std.proofs.lemmas.List.{length-append}
+use Rattle.std.proofs.lemmas.List.{append-nil, drop_all}
 use Rattle.sei_outside.specs.Bytes.{WrotePart}
 use Rattle.mc_model.specs.Call.{Placed}
-use Rattle.sei_main.specs.History.{Entry}
-use Rattle.sei_main.specs.Own.{is_message, message_of, messages_of}
-use Rattle.sei_main.specs.Events.{Event, entries_of}
-use Rattle.sei_main.specs.State.{Answering, clock_answer, entry_for, entry_events, answers_by}
+use Rattle.sei_traverse.specs.declared.turned.State.{State}
+use Rattle.sei_traverse.specs.declared.turned.State.TheVariants.{Went, Finished, Refused, Aborted}
+use Rattle.sei_script.specs.ReportLines.{is_message}
+use Rattle.sei_main.specs.declared.world.state.Answered.{Answered}
+use Rattle.sei_main.specs.Answering.{Answering}
+use Rattle.sei_main.specs.Becomes.{IsAnswered}
+use Rattle.sei_main.specs.Own.{message_of}
+use Rattle.sei_main.specs.Events.{Event}
+use Rattle.sei_main.specs.Serving.{Asking, AnswersOf, answer_in, answers_by, on_with, is_stopped}
 use Rattle.sei_main.specs.Report.{events_text}
-use Rattle.sei_main.proofs.Written.{Written, written_more, written_part, written_same}
-use Rattle.sei_main.proofs.Answering.{entries_answered}
+use Rattle.sei_main.proofs.Written.{Written, written_start, written_more, written_part, written_all, written_same}
 
 call_there : (calls : List Placed) (nth : ℕ) (p : Placed) → Some p ≡ slice_get calls nth → drop nth calls ≡ p ∷ drop (nth + 1) calls
 call_there [] nth p e = cc
 call_there (x ∷ calls) zero p e = let s : p ≡ x = cc in ap (λ (y : Placed). y ∷ calls) (sym s)
 call_there (x ∷ calls) (suc nth) p e = let k : suc (nth + 1) ≡ suc nth + 1 = omega arith in call_there calls nth p e ∙ ap (λ (n : ℕ). p ∷ drop n (x ∷ calls)) k
-
-one_message : (reply : List ℕ) (sent : Bool) → sent ≡ is_message reply → length (message_of reply) ≡ (if sent then 1 else 0)
-one_message [] sent e = ap (λ (b : Bool). if b then 1 else 0) (sym e)
-one_message (b ∷ bs) sent e = ap (λ (b : Bool). if b then 1 else 0) (sym e)
-
-pub byte_of : (sent : Bool) → bool_byte sent ≡ (if sent then 1 else 0)
-byte_of true = refl
-byte_of false = refl
-
-at_most_one : (sent : Bool) → (if sent then 1 else 0) ≤ 1
-at_most_one true = omega arith
-at_most_one false = omega arith
 
 -- there is no call too few
 pub call_is_there : (calls : List Placed) (nth : ℕ) → nth < length calls → None ≡ slice_get calls nth → ⊥
@@ -41,54 +33,122 @@ pub none_of : {A : Type 0} (o : Option A) → ((x : A) → o ≡ Some x → ⊥)
 none_of None h = refl
 none_of (Some x) h = absurd (h x refl)
 
-module _ {S : Type 0} (answering : Answering S) where
-  -- the answers from the nth call on
-  abbrev pub later : ℕ → ℕ → ℕ → S → List Placed → S × List Event
-  later c first nth server calls = answers_by answering c (first + nth) server (drop nth calls)
+-- one message more, where a call sent one
+pub one_message : (message : List ℕ) (sent : Bool) → sent ≡ is_message message → length (message_of message) ≡ bool_byte sent
+one_message [] sent e = sym (ap bool_byte e)
+one_message (b ∷ bs) sent e = sym (ap bool_byte e)
 
-  pub record CallsSoFar (h : Bool) (old now : Option (List ℕ)) (c first nth messages : ℕ) (start server : S) (calls : List Placed) : Type 0 where
-    pub written : Written h old now (later c first nth server calls).1 (answers_by answering c first start calls).1
-    pub server_is : (later c first nth server calls).0 ≡ (answers_by answering c first start calls).0
-    pub count : messages + length (messages_of (entries_of (later c first nth server calls).1)) ≡ length (messages_of (entries_of (answers_by answering c first start calls).1))
+pub at_most_one : (sent : Bool) → bool_byte sent ≤ 1
+at_most_one true = omega arith
+at_most_one false = omega arith
+
+pub unfinished : (state : State) → is_stopped state ≡ true → state ≡ Finished → ⊥
+unfinished state e f = let z : false ≡ true = ap is_stopped (sym f) ∙ e in cc
+
+pub finished_is : (state : State) → is_stopped state ≡ false → state ≡ Finished
+finished_is Finished e = refl
+finished_is Went e = let z : ⊥ = cc in absurd z
+finished_is Refused e = let z : ⊥ = cc in absurd z
+finished_is (Aborted abort) e = let z : ⊥ = cc in absurd z
+
+module _ {S : Type 0} (here later : AnswersOf S) where
+  -- what happens in a call happens first
+  starts : (state : State) → (more : List Event) × ((on_with here later state).events ≡ here.events ++ more)
+  starts Finished = (later.events, refl)
+  starts Went = ([], sym (append-nil here.events))
+  starts Refused = ([], sym (append-nil here.events))
+  starts (Aborted abort) = ([], sym (append-nil here.events))
+
+  -- behind a call that did not finish comes none
+  stops : (state : State) → (state ≡ Finished → ⊥) → on_with here later state ≡ here
+  stops Finished e = absurd (e refl)
+  stops Went e = refl
+  stops Refused e = refl
+  stops (Aborted abort) e = refl
+
+module _ {S : Type 0} (answering : Answering S) (q : Asking) where
+  -- the answers from the nth call on, behind so many messages
+  abbrev pub later : ℕ → ℕ → S → List Placed → AnswersOf S
+  later nth messages server calls = answers_by answering q nth messages server (drop nth calls)
+
+  abbrev pub whole : S → List Placed → AnswersOf S
+  whole start calls = answers_by answering q 0 0 start calls
+
+  pub record CallsSoFar (h : Bool) (old now : Option (List ℕ)) (nth messages : ℕ) (start server : S) (calls : List Placed) : Type 0 where
+    pub written : Written h old now (later nth messages server calls).events (whole start calls).events
+    pub server_is : (later nth messages server calls).server ≡ (whole start calls).server
+    pub messages_are : (later nth messages server calls).messages ≡ (whole start calls).messages
+    pub state_is : (later nth messages server calls).state ≡ (whole start calls).state
     pub few : messages ≤ nth
 
-  -- the answers from here on are one answer, and then the later ones
-  later_front : (c first nth : ℕ) (server new : S) (calls : List Placed) (p : Placed) → Some p ≡ slice_get calls nth → new ≡ (answering server clock_answer p).0
-      → later c first nth server calls
-      ≡ ((later c first (nth + 1) new calls).0, entry_events (entry_for c (first + nth) p (answering server clock_answer p).1) ++ (later c first (nth + 1) new calls).1)
-  later_front c first nth server new calls p e n =
-      let a = answering server clock_answer p in
-      let k : first + nth + 1 ≡ first + (nth + 1) = omega arith in
-      let entry : Entry = entry_for c (first + nth) p a.1 in
-      ap (λ (ps : List Placed). answers_by answering c (first + nth) server ps) (call_there calls nth p e)
-      ∙ ap (λ (m : ℕ). ((answers_by answering c m a.0 (drop (nth + 1) calls)).0, entry_events entry ++ (answers_by answering c m a.0 (drop (nth + 1) calls)).1)) k
-      ∙ ap (λ (s : S). ((answers_by answering c (first + (nth + 1)) s (drop (nth + 1) calls)).0, entry_events entry ++ (answers_by answering c (first + (nth + 1)) s (drop (nth + 1) calls)).1)) (sym n)
+  pub calls_start : (h : Bool) (old : Option (List ℕ)) (start : S) (calls : List Placed) → CallsSoFar h old old 0 0 start start calls
+  calls_start h old start calls = record { written = written_start h old (whole start calls).events; server_is = refl; messages_are = refl; state_is = refl; few = omega arith }
 
-  -- a call more
-  pub call_more : (h : Bool) (old now new : Option (List ℕ)) (c first nth messages : ℕ) (start server next : S) (calls : List Placed) (p : Placed) (sent : Bool)
-      → CallsSoFar h old now c first nth messages start server calls → Some p ≡ slice_get calls nth → next ≡ (answering server clock_answer p).0 → sent ≡ is_message (answering server clock_answer p).1
-      → new ≡ append_known now (events_text h (entry_events (entry_for c (first + nth) p (answering server clock_answer p).1)))
-      → CallsSoFar h old new c first (nth + 1) (messages + (if sent then 1 else 0)) start next calls
-  call_more h old now new c first nth messages start server next calls p sent s e n m w =
-      let a = answering server clock_answer p in
-      let entry : Entry = entry_for c (first + nth) p a.1 in
-      let front = later_front c first nth server next calls p e n in
-      let rest = later c first (nth + 1) next calls in
-      let entries : entries_of (later c first nth server calls).1 ≡ entry ∷ entries_of rest.1 = ap (λ (q : S × List Event). entries_of q.1) front ∙ entries_answered entry rest.1 in
-      let many : length (messages_of (entries_of (later c first nth server calls).1)) ≡ (if sent then 1 else 0) + length (messages_of (entries_of rest.1)) =
-      ap (λ (es : List Entry). length (messages_of es)) entries ∙ length-append (message_of a.1) (messages_of (entries_of rest.1)) ∙ ap (λ (x : ℕ). x + length (messages_of (entries_of rest.1))) (one_message a.1 sent m) in
-      record {
-        written = written_more h old now new (entry_events entry) rest.1 _ (written_same h old now _ _ _ (ap (λ (q : S × List Event). q.1) front) s.written) w;
-        server_is = sym (ap (λ (q : S × List Event). q.0) front) ∙ s.server_is;
-        count = omega (arith, many, s.count);
-        few = omega (arith, s.few, at_most_one sent);
-      }
+  module _ (h : Bool) (old now new : Option (List ℕ)) (nth messages : ℕ) (start server : S) (calls : List Placed) (p : Placed) (so_far : CallsSoFar h old now nth messages start server calls) (is : Some p ≡ slice_get calls nth) where
+    abbrev here : AnswersOf S
+    here = answer_in answering q nth messages server p
 
-  -- a part of a call more
-  pub call_part : (h : Bool) (old now new : Option (List ℕ)) (c first nth messages : ℕ) (start server : S) (calls : List Placed) (p : Placed)
-      → CallsSoFar h old now c first nth messages start server calls → Some p ≡ slice_get calls nth
-      → WrotePart now new (events_text h (entry_events (entry_for c (first + nth) p (answering server clock_answer p).1))) → WrotePart old new (events_text h (answers_by answering c first start calls).1)
-  call_part h old now new c first nth messages start server calls p s e w =
-      let a = answering server clock_answer p in
-      let front = later_front c first nth server a.0 calls p e refl in
-      written_part h old now new (entry_events (entry_for c (first + nth) p a.1)) (later c first (nth + 1) a.0 calls).1 _ (written_same h old now _ _ _ (ap (λ (q : S × List Event). q.1) front) s.written) w
+    abbrev rest : AnswersOf S
+    rest = later (nth + 1) here.messages here.server calls
+
+    -- the answers from here on are one answer, and then the later ones
+    front : later nth messages server calls ≡ on_with here rest here.state
+    front = ap (λ (ps : List Placed). answers_by answering q nth messages server ps) (call_there calls nth p is)
+
+    -- a call more
+    pub call_more : (next : S) (answered : Answered) → next ≡ here.server → IsAnswered answered here → answered.messages ≤ nth + 1 → answered.state ≡ Finished → new ≡ append_known now (events_text h here.events) →
+        CallsSoFar h old new (nth + 1) answered.messages start next calls
+    call_more next answered n a few finished w =
+        let same : later (nth + 1) answered.messages next calls ≡ rest =
+        ap (λ (m : ℕ). later (nth + 1) m next calls) a.messages ∙ ap (λ (s : S). later (nth + 1) here.messages s calls) n in
+        let on : later nth messages server calls ≡ on_with here rest Finished = front ∙ ap (on_with here rest) (sym a.state ∙ finished) in
+        record {
+          written = written_same h old new _ _ _ (ap (λ (x : AnswersOf S). x.events) (sym same))
+              (written_more h old now new here.events rest.events _ (written_same h old now _ _ _ (ap (λ (x : AnswersOf S). x.events) on) so_far.written) w);
+          server_is = ap (λ (x : AnswersOf S). x.server) same ∙ sym (ap (λ (x : AnswersOf S). x.server) on) ∙ so_far.server_is;
+          messages_are = ap (λ (x : AnswersOf S). x.messages) same ∙ sym (ap (λ (x : AnswersOf S). x.messages) on) ∙ so_far.messages_are;
+          state_is = ap (λ (x : AnswersOf S). x.state) same ∙ sym (ap (λ (x : AnswersOf S). x.state) on) ∙ so_far.state_is;
+          few = few;
+        }
+
+    -- a part of a call more
+    pub call_part : WrotePart now new (events_text h here.events) → WrotePart old new (events_text h (whole start calls).events)
+    call_part w =
+        let s = starts here rest here.state in
+        written_part h old now new here.events s.0 _ (written_same h old now _ _ _ (ap (λ (x : AnswersOf S). x.events) front ∙ s.1) so_far.written) w
+
+    -- the last call: it did not finish
+    call_stops : (here.state ≡ Finished → ⊥) → later nth messages server calls ≡ here
+    call_stops unfinished = front ∙ stops here rest here.state unfinished
+
+    pub stop_server : (next : S) → next ≡ here.server → (here.state ≡ Finished → ⊥) → next ≡ (whole start calls).server
+    stop_server next n u = n ∙ sym (ap (λ (x : AnswersOf S). x.server) (call_stops u)) ∙ so_far.server_is
+
+    pub stop_answered : (answered : Answered) → IsAnswered answered here → (here.state ≡ Finished → ⊥) → IsAnswered answered (whole start calls)
+    stop_answered answered a u = record {
+      messages = a.messages ∙ sym (ap (λ (x : AnswersOf S). x.messages) (call_stops u)) ∙ so_far.messages_are;
+      state = a.state ∙ sym (ap (λ (x : AnswersOf S). x.state) (call_stops u)) ∙ so_far.state_is;
+    }
+
+    pub stop_all : new ≡ append_known now (events_text h here.events) → (here.state ≡ Finished → ⊥) → new ≡ append_known old (events_text h (whole start calls).events)
+    stop_all w u =
+        let none : later nth messages server calls ≡ here = call_stops u in
+        written_all h old new (whole start calls).events
+        (written_more h old now new here.events [] _ (written_same h old now _ _ _ (ap (λ (x : AnswersOf S). x.events) none ∙ sym (append-nil here.events)) so_far.written) w)
+
+  module _ (h : Bool) (old now : Option (List ℕ)) (nth messages : ℕ) (start server : S) (calls : List Placed) (so_far : CallsSoFar h old now nth messages start server calls) (all : length calls ≤ nth) where
+    -- behind the last call
+    none_left : later nth messages server calls ≡ record { server = server; events = []; messages = messages; state = Finished }
+    none_left = ap (λ (ps : List Placed). answers_by answering q nth messages server ps) (drop_all nth calls all)
+
+    pub end_server : server ≡ (whole start calls).server
+    end_server = sym (ap (λ (x : AnswersOf S). x.server) none_left) ∙ so_far.server_is
+
+    pub end_answered : (answered : Answered) → answered.messages ≡ messages → answered.state ≡ Finished → IsAnswered answered (whole start calls)
+    end_answered answered m f = record {
+      messages = m ∙ sym (ap (λ (x : AnswersOf S). x.messages) none_left) ∙ so_far.messages_are;
+      state = f ∙ sym (ap (λ (x : AnswersOf S). x.state) none_left) ∙ so_far.state_is;
+    }
+
+    pub end_all : now ≡ append_known old (events_text h (whole start calls).events)
+    end_all = written_all h old now (whole start calls).events (written_same h old now _ _ _ (ap (λ (x : AnswersOf S). x.events) none_left) so_far.written)

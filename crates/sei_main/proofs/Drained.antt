@@ -3,15 +3,15 @@ use Rattle.std.proofs.Common.{◌≡◌, ℕ, zero, suc, ◌+◌, ◌<◌, ◌�
 use Rattle.std.specs.Prelude.{if◌then◌else◌, ◌||◌, nat_lt}
 use Rattle.std.proofs.lemmas.Bool.Decides.{nat_tests}
 use Rattle.std.proofs.lemmas.List.{get_or_past}
-use Rattle.mc_model.specs.Server.{server_answer}
 use Rattle.mc_text.specs.Meaning.{Meaning}
-use Rattle.sei_main.specs.declared.script.line.ScriptLine.{ScriptLine}
-use Rattle.sei_main.specs.declared.script.line.ScriptLine.TheVariants as lines
+use Rattle.sei_script.specs.declared.line.ScriptLine.{ScriptLine}
+use Rattle.sei_script.specs.declared.line.ScriptLine.TheVariants as lines
 use Rattle.sei_main.specs.Quiet.{is_drain, ends_in_drain}
 use Rattle.sei_main.specs.Seats.{Seat, empty_seat}
 use Rattle.sei_main.specs.State.{led_by, State, Told, Went, idle, behind, step, step_front, next_request, limits_of, seat_at, round_from, round, rounds, bytes_waiting}
 use Rattle.sei_main.specs.Run.{after, run_from}
-use Rattle.sei_main.proofs.Rounds.{Goes, step_goes, round_goes, round_took}
+use Rattle.sei_main.proofs.Rounds.{Goes, round_goes, round_took}
+use Rattle.sei_main.proofs.Stepping.{plain_steps}
 
 neither : (a b : Bool) → (a || b) ≡ false → (a ≡ false) × (b ≡ false)
 neither true b e = cc
@@ -47,7 +47,7 @@ none_waits : (count c : ℕ) (s : State) → (round_from count c s).went ≡ fal
 none_waits zero c s e d l h = absurd (omega (arith, l, h))
 none_waits (suc count) c s e d l h =
     let n : ((step s c).went ≡ false) × ((round_from count (c + 1) (step s c).state).went ≡ false) = neither (step s c).went (round_from count (c + 1) (step s c).state).went e in
-    let i : step s c ≡ idle s = stays s (step s c) (step_goes server_answer s c) n.0 in
+    let i : step s c ≡ idle s = stays s (step s c) (plain_steps.goes s c) n.0 in
     none_at s c d (below c d) l n.0
     (λ q. none_waits count (c + 1) s (ap (λ (w : Went). (round_from count (c + 1) w.state).went) (sym i) ∙ n.1) d (omega (arith, q)) (omega (arith, h)))
 
@@ -61,19 +61,22 @@ nothing_waits s n e c = nothing_by s c e n (below c (length s.seats))
 
 end_by : (m : ℕ) (s : State) (test : Bool) → (round s).went ≡ test → (test ≡ true → (round (rounds m (round s).state).state).went ≡ false)
     → (round (if test then behind (round s) (rounds m) else round s).state).went ≡ false
-end_by m s true e step = step refl
-end_by m s false e step = ap (λ (w : Went). (round w.state).went) (stays s (round s) (round_goes server_answer s) e) ∙ e
+end_by m s true e more = more refl
+end_by m s false e more = ap (λ (w : Went). (round w.state).went) (stays s (round s) (round_goes step plain_steps s) e) ∙ e
 
 pub rounds_end : (m : ℕ) (s : State) → bytes_waiting s.seats < m → (round (rounds m s).state).went ≡ false
 rounds_end zero s h = absurd (omega (arith, h))
-rounds_end (suc m) s h = end_by m s (round s).went refl (λ e. rounds_end m (round s).state (omega (arith, h, round_took server_answer s e)))
+rounds_end (suc m) s h = end_by m s (round s).went refl (λ e. rounds_end m (round s).state (omega (arith, h, round_took step plain_steps s e)))
 
 last_drains : (t : Told) (line : ScriptLine) → is_drain line ≡ true → (round (after t line).state).went ≡ false
 unfolding led_by
 last_drains t (lines.Geometry g) e = cc
 last_drains t (lines.Open c) e = cc
 last_drains t (lines.Say c bytes) e = cc
+last_drains t (lines.Hex c bytes) e = cc
 last_drains t lines.Drain e = rounds_end (bytes_waiting t.state.seats + 1) t.state (omega arith)
+last_drains t (lines.Clock now) e = cc
+last_drains t (lines.Fault c n plan) e = cc
 
 -- a script that ends in a drain
 pub drain_ends : (t : Told) (script : List ScriptLine) → ends_in_drain script ≡ true → (round (run_from t script).state).went ≡ false

@@ -1,14 +1,14 @@
 -- The lines of a script that are left, behind those that were run.
 use Rattle.std.proofs.Common.{◌≡◌, ℕ, ◌≤◌, List, ◌∷◌, length, refl, ◌∙◌, ap, arith}
-use Rattle.sei_main.specs.declared.script.line.ScriptLine.{ScriptLine}
-use Rattle.sei_main.specs.declared.script.line.ScriptLine.TheVariants as lines
-use Rattle.sei_main.specs.declared.script.line.Context.{Context}
-use Rattle.sei_main.specs.Limits.{most_connections}
-use Rattle.sei_main.specs.Context.{empty_context, context_after}
-use Rattle.sei_main.specs.Fit.{IsFit, AreFit}
-use Rattle.sei_main.specs.State.{Answering, StateOf, led_by}
+use Rattle.sei_script.specs.declared.line.ScriptLine.{ScriptLine}
+use Rattle.sei_script.specs.declared.line.ScriptLine.TheVariants as lines
+use Rattle.sei_script.specs.declared.line.Context.{Context}
+use Rattle.sei_script.specs.Limits.{most_connections}
+use Rattle.sei_script.specs.Context.{empty_context, context_after}
+use Rattle.sei_script.specs.Fit.{IsFit, AreFit}
+use Rattle.sei_main.specs.State.{Stepping, StateOf, led_by}
 use Rattle.sei_main.specs.Becomes.{IsKnown}
-use Rattle.sei_main.proofs.Rounds.{led_length}
+use Rattle.sei_main.proofs.Rounds.{IsStepping, led_length}
 
 -- lines that may be run where so many connections are open
 pub record FitBehind (opens : ℕ) (script : List ScriptLine) : Type 0 where
@@ -24,7 +24,10 @@ known_by : (opens : ℕ) (x : Context) (line : ScriptLine) → opens ≡ x.opens
 known_by opens x (lines.Geometry g) e f = tt
 known_by opens x (lines.Open c) e f = tt
 known_by opens x (lines.Say c bytes) e f = omega (arith, e, f.1)
+known_by opens x (lines.Hex c bytes) e f = omega (arith, e, f.1)
 known_by opens x lines.Drain e f = tt
+known_by opens x (lines.Clock now) e f = tt
+known_by opens x (lines.Fault c t plan) e f = omega (arith, e, f.1)
 
 -- the next line speaks of a connection that is there
 pub fit_known : (opens : ℕ) (line : ScriptLine) (script : List ScriptLine) → FitBehind opens (line ∷ script) → IsKnown opens line
@@ -34,13 +37,16 @@ few_by : (opens : ℕ) (x : Context) (line : ScriptLine) → opens ≡ x.opens �
 few_by opens x (lines.Geometry g) e h f = omega (arith, e, h)
 few_by opens x (lines.Open c) e h f = omega (arith, f.1, f.2)
 few_by opens x (lines.Say c bytes) e h f = omega (arith, e, h)
+few_by opens x (lines.Hex c bytes) e h f = omega (arith, e, h)
 few_by opens x lines.Drain e h f = omega (arith, e, h)
+few_by opens x (lines.Clock now) e h f = omega (arith, e, h)
+few_by opens x (lines.Fault c t plan) e h f = omega (arith, e, h)
 
-module _ {S : Type 0} (answering : Answering S) where
+module _ {S : Type 0} (step : Stepping S) (law : IsStepping step) where
   -- and the lines behind it may be run then
-  pub fit_next : (s new : StateOf S) (line : ScriptLine) (script : List ScriptLine) → new ≡ (led_by answering s line).state → FitBehind (length s.seats) (line ∷ script) → FitBehind (length new.seats) script
+  pub fit_next : (s new : StateOf S) (line : ScriptLine) (script : List ScriptLine) → new ≡ (led_by step s line).state → FitBehind (length s.seats) (line ∷ script) → FitBehind (length new.seats) script
   fit_next s new line script e f =
-      let size : length new.seats ≡ (context_after f.context line).opens = ap (λ (x : StateOf S). length x.seats) e ∙ led_length answering s f.context line f.opens_is in
+      let size : length new.seats ≡ (context_after f.context line).opens = ap (λ (x : StateOf S). length x.seats) e ∙ led_length step law s f.context line f.opens_is in
       record {
         context = context_after f.context line;
         opens_is = size;

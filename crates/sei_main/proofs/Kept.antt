@@ -79,7 +79,7 @@ takes_keeps g fed t c size m next some k =
     let history : List Entry = entries_of t.events in
     let calls : List Placed = calls_of t.state.geometry.buckets m in
     let calls_are : calls ≡ calls_of l.buckets m = ap (λ (x : Geometry). calls_of x.buckets m) k.geometry in
-    let a : Server × List Event = answers c seat.entered t.state.server calls in
+    let a : Server × List Event = answers t.state.clock c seat.entered t.state.server calls in
     let entries : List Entry = entries_of a.1 in
     let closes : Bool = ends_connection m in
     let events : List Event = a.1 ++ closed_events c closes in
@@ -87,20 +87,20 @@ takes_keeps g fed t c size m next some k =
     let entries_are : entries_of events ≡ entries = entries_closed a.1 c closes in
     let own : IsOwnOf c events entries = record {
       entries_are = entries_are;
-      own = own_answered c seat.entered t.state.server calls;
-      others = λ d h. own_others c d seat.entered t.state.server calls h;
-      sent = sent_closed c a.1 c closes ∙ sent_answered c seat.entered t.state.server calls;
-      unsent = λ d h. sent_closed d a.1 c closes ∙ sent_others c d seat.entered t.state.server calls h;
+      own = own_answered t.state.clock c seat.entered t.state.server calls;
+      others = λ d h. own_others t.state.clock c d seat.entered t.state.server calls h;
+      sent = sent_closed c a.1 c closes ∙ sent_answered t.state.clock c seat.entered t.state.server calls;
+      unsent = λ d h. sent_closed d a.1 c closes ∙ sent_others t.state.clock c d seat.entered t.state.server calls h;
     } in
     let new : Seat = taken_more seat size (length calls) (length (messages_of entries)) closes in
     let here : SeatKept l (fed c) (own_entries c history ++ entries) (sent_to c t.events ++ messages_of entries) new =
     subst (λ (n : ℕ). SeatKept l (fed c) (own_entries c history ++ entries) (sent_to c t.events ++ messages_of entries) (taken_more seat size n (length (messages_of entries)) closes)) (ap length (sym calls_are))
-    (taken_kept l (fed c) (own_entries c history) (sent_to c t.events) seat size m entries next' (calls_answered c seat.entered t.state.server calls ∙ calls_are) (counted_answered c seat.entered t.state.server calls) (k.seats c)) in
+    (taken_kept l (fed c) (own_entries c history) (sent_to c t.events) seat size m entries next' (calls_answered t.state.clock c seat.entered t.state.server calls ∙ calls_are) (counted_answered t.state.clock c seat.entered t.state.server calls) (k.seats c)) in
     let stand : All (StandsAt g.buckets) calls = subst (All (StandsAt g.buckets)) (sym calls_are) (calls_stand l seat size m next' some) in
     record {
       geometry = k.geometry;
       server = subst (λ (es : List Entry). ServerKept g a.0 es) (sym (entries_append t.events events ∙ ap (λ (es : List Entry). history ++ es) entries_are))
-          (answers_kept g t.state.server history c seat.entered calls stand k.server);
+          (answers_kept g t.state.server history t.state.clock c seat.entered calls stand k.server);
       seats = λ d. keep_at g fed t c d events entries new (c == d) refl own k here (has_seat (limits_of t.state.geometry) t.state.seats c size m next);
     }
 

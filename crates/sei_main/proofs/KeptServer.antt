@@ -11,7 +11,7 @@ use Rattle.mc_model.specs.Answer.{answer}
 use Rattle.mc_model.specs.Server.{Server, room_of, empty_server, bucket_at, server_answer}
 use Rattle.sei_main.specs.History.{Entry, led_through, state_after, IsAnswered, IsLegalBehind, IsLegal}
 use Rattle.sei_main.specs.Events.{entries_of}
-use Rattle.sei_main.specs.State.{clock_answer, entry_for, answers}
+use Rattle.sei_main.specs.State.{entry_for, answers}
 use Rattle.sei_main.proofs.Answering.{entries_answered}
 
 pub record ServerKept (g : Geometry) (server : Server) (history : List Entry) : Type 0 where
@@ -49,45 +49,45 @@ led_push : (room : Room) (b : ℕ) (bucket : Bucket) (entries : List Entry) (ent
 led_push room b bucket [] entry = refl
 led_push room b bucket (x ∷ entries) entry = led_push room b (if x.bucket == b then (answer room bucket x.now x.call).0 else bucket) entries entry
 
-bucket_by : (g : Geometry) (server : Server) (history : List Entry) (p : Placed) (c n b : ℕ) (test : Bool) → (p.bucket == b) ≡ test → b < g.buckets → p.bucket < g.buckets → ServerKept g server history
-    → bucket_at (server_answer server clock_answer p).0 b ≡ (if test then (answer (room_of g) (state_after (room_of g) b history) clock_answer p.call).0 else state_after (room_of g) b history)
-bucket_by g server history p c n b true q h i k =
+bucket_by : (g : Geometry) (server : Server) (history : List Entry) (p : Placed) (time c n b : ℕ) (test : Bool) → (p.bucket == b) ≡ test → b < g.buckets → p.bucket < g.buckets → ServerKept g server history
+    → bucket_at (server_answer server time p).0 b ≡ (if test then (answer (room_of g) (state_after (room_of g) b history) time p.call).0 else state_after (room_of g) b history)
+bucket_by g server history p time c n b true q h i k =
     let same : p.bucket ≡ b = grind (arith, nat_tests) in
-    let new : Bucket = (answer server.room (bucket_at server p.bucket) clock_answer p.call).0 in
+    let new : Bucket = (answer server.room (bucket_at server p.bucket) time p.call).0 in
     let inside : p.bucket < length server.buckets = omega (arith, i, k.size) in
     ap (λ (x : ℕ). slice_index_or (slice_set server.buckets p.bucket new) x empty_bucket) (sym same)
     ∙ get_or-set_same server.buckets p.bucket new empty_bucket inside
-    ∙ ap (λ (r : Room). (answer r (bucket_at server p.bucket) clock_answer p.call).0) k.room
-    ∙ ap (λ (x : ℕ). (answer (room_of g) (bucket_at server x) clock_answer p.call).0) same
-    ∙ ap (λ (x : Bucket). (answer (room_of g) x clock_answer p.call).0) (k.buckets b h)
-bucket_by g server history p c n b false q h i k =
+    ∙ ap (λ (r : Room). (answer r (bucket_at server p.bucket) time p.call).0) k.room
+    ∙ ap (λ (x : ℕ). (answer (room_of g) (bucket_at server x) time p.call).0) same
+    ∙ ap (λ (x : Bucket). (answer (room_of g) x time p.call).0) (k.buckets b h)
+bucket_by g server history p time c n b false q h i k =
     let other : b ≢ p.bucket = grind (arith, nat_tests) in
-    get_or-set_other server.buckets p.bucket b (answer server.room (bucket_at server p.bucket) clock_answer p.call).0 empty_bucket other ∙ k.buckets b h
+    get_or-set_other server.buckets p.bucket b (answer server.room (bucket_at server p.bucket) time p.call).0 empty_bucket other ∙ k.buckets b h
 
 -- a call was answered
-pub answer_kept : (g : Geometry) (server : Server) (history : List Entry) (c n : ℕ) (p : Placed) → StandsAt g.buckets p → ServerKept g server history
-    → ServerKept g (server_answer server clock_answer p).0 (history ++ entry_for c n p (server_answer server clock_answer p).1 ∷ [])
-answer_kept g server history c n p s k =
-    let a = server_answer server clock_answer p in
-    let entry = entry_for c n p a.1 in
-    let reply : a.1 ≡ (answer (room_of g) (state_after (room_of g) p.bucket history) clock_answer p.call).1 =
-    ap (λ (r : Room). (answer r (bucket_at server p.bucket) clock_answer p.call).1) k.room
-    ∙ ap (λ (b : Bucket). (answer (room_of g) b clock_answer p.call).1) (k.buckets p.bucket s.bucket) in
+pub answer_kept : (g : Geometry) (server : Server) (history : List Entry) (time c n : ℕ) (p : Placed) → StandsAt g.buckets p → ServerKept g server history
+    → ServerKept g (server_answer server time p).0 (history ++ entry_for time c n p (server_answer server time p).1 ∷ [])
+answer_kept g server history time c n p s k =
+    let a = server_answer server time p in
+    let entry = entry_for time c n p a.1 in
+    let reply : a.1 ≡ (answer (room_of g) (state_after (room_of g) p.bucket history) time p.call).1 =
+    ap (λ (r : Room). (answer r (bucket_at server p.bucket) time p.call).1) k.room
+    ∙ ap (λ (b : Bucket). (answer (room_of g) b time p.call).1) (k.buckets p.bucket s.bucket) in
     record {
       room = k.room;
       size = length-set server.buckets p.bucket _ ∙ k.size;
       legal = legal_push g [] history entry k.legal (record { placed = s.placed; reply = reply });
-      buckets = λ b h. bucket_by g server history p c n b (p.bucket == b) refl h s.bucket k ∙ sym (led_push (room_of g) b empty_bucket history entry);
+      buckets = λ b h. bucket_by g server history p time c n b (p.bucket == b) refl h s.bucket k ∙ sym (led_push (room_of g) b empty_bucket history entry);
     }
 
 -- and calls were
-pub answers_kept : (g : Geometry) (server : Server) (history : List Entry) (c n : ℕ) (ps : List Placed) → All (StandsAt g.buckets) ps → ServerKept g server history
-    → ServerKept g (answers c n server ps).0 (history ++ entries_of (answers c n server ps).1)
-answers_kept g server history c n [] s k = subst (λ (es : List Entry). ServerKept g server es) (sym (append-nil history)) k
-answers_kept g server history c n (p ∷ ps) s k =
-    let a = server_answer server clock_answer p in
-    let entry = entry_for c n p a.1 in
-    let rest = answers c (n + 1) a.0 ps in
+pub answers_kept : (g : Geometry) (server : Server) (history : List Entry) (time c n : ℕ) (ps : List Placed) → All (StandsAt g.buckets) ps → ServerKept g server history
+    → ServerKept g (answers time c n server ps).0 (history ++ entries_of (answers time c n server ps).1)
+answers_kept g server history time c n [] s k = subst (λ (es : List Entry). ServerKept g server es) (sym (append-nil history)) k
+answers_kept g server history time c n (p ∷ ps) s k =
+    let a = server_answer server time p in
+    let entry = entry_for time c n p a.1 in
+    let rest = answers time c (n + 1) a.0 ps in
     subst (λ (es : List Entry). ServerKept g rest.0 es)
     (append_assoc history (entry ∷ []) (entries_of rest.1) ∙ ap (λ (es : List Entry). history ++ es) (sym (entries_answered entry rest.1)))
-    (answers_kept g a.0 (history ++ entry ∷ []) c (n + 1) ps (λ i d h. s (suc i) d (omega (arith, h))) (answer_kept g server history c n p (s 0 p (omega arith)) k))
+    (answers_kept g a.0 (history ++ entry ∷ []) time c (n + 1) ps (λ i d h. s (suc i) d (omega (arith, h))) (answer_kept g server history time c n p (s 0 p (omega arith)) k))

@@ -11,9 +11,9 @@ use Rattle.mc_text.specs.Meaning.{Meaning, calls_of}
 use Rattle.mc_text.specs.Front.{front}
 use Rattle.mc_text.specs.Stream.{Takes, requests, up_to_end, own_requests, own_calls}
 use Rattle.mc_text.proofs.StreamLaws.{takes_requests, no_requests}
-use Rattle.sei_main.specs.declared.script.line.ScriptLine.{ScriptLine}
-use Rattle.sei_main.specs.Context.{empty_context, geometry_of}
-use Rattle.sei_main.specs.Fit.{AreFit}
+use Rattle.sei_script.specs.declared.line.ScriptLine.{ScriptLine}
+use Rattle.sei_script.specs.Context.{empty_context, geometry_of}
+use Rattle.sei_script.specs.Fit.{AreFit}
 use Rattle.sei_main.specs.Own.{own_entries, calls_in}
 use Rattle.sei_main.specs.Events.{sent_to}
 use Rattle.sei_main.specs.Seats.{Seat, empty_seat, waiting}

@@ -1,10 +1,10 @@
 -- A script that reads may be run.
 use Rattle.std.proofs.Common.{◌≡◌, ℕ, List}
-use Rattle.sei_main.specs.declared.script.line.ScriptLine.{ScriptLine}
-use Rattle.sei_main.specs.Limits.{script_limit}
-use Rattle.sei_main.specs.Reading.{Reads}
+use Rattle.sei_script.specs.declared.line.ScriptLine.{ScriptLine}
+use Rattle.sei_script.specs.Limits.{script_limit}
+use Rattle.sei_script.specs.Reading.{Reads}
 use Rattle.sei_main.specs.Answers.{reading_in}
-use Rattle.sei_main.proofs.Fit.{reads_fit, reads_valid}
+use Rattle.sei_script.proofs.Fit.{reads_fit, reads_valid}
 use Rattle.sei_main.proofs.Laws.{IsRunnable}
 
 pub reads_runnable : (input : List ℕ) (script : List ScriptLine) → reading_in input ≡ Reads script → IsRunnable script

@@ -1,58 +1,85 @@
--- Two servers that answer alike run a script alike, where the script says bytes.
-use Rattle.std.proofs.Common.{◌≡◌, ℕ, zero, suc, ◌+◌, ◌<◌, Bool, true, false, List, [], ◌∷◌, ◌++◌, length, refl, ap, sym, ◌∙◌, subst, arith, Option, Some, None}
-use Rattle.std.specs.Prelude.{if◌then◌else◌, ◌||◌, slice_set, slice_index_or, codes, All}
+-- A server that answers as the plain server does, where no fault is planned, runs a quiet script as the plain server does.
+use Rattle.std.proofs.Common.{◌≡◌, ℕ, zero, suc, ◌+◌, ◌<◌, ◌^◌, Bool, true, false, List, [], ◌∷◌, ◌++◌, length, refl, ap, sym, ◌∙◌, subst, arith, Option, Some, None}
+use Rattle.std.specs.Prelude.{if◌then◌else◌, ◌||◌, ◌&&◌, slice_set, slice_index_or, slice_get, take, All}
+use Rattle.std.specs.List.{list_all}
+use Rattle.std.proofs.lemmas.List.{append-nil, length-append}
 use Rattle.std.proofs.lemmas.List.Elements.{All-nil, All-head, All-tail, All-append, All-push, All-set}
 use Rattle.mc_model.specs.declared.geometry.Geometry.{Geometry}
 use Rattle.mc_model.specs.Call.{Placed}
+use Rattle.mc_model.specs.Server.{Server, server_answer}
 use Rattle.mc_text.specs.Meaning.{Meaning, calls_of, ends_connection}
-use Rattle.mc_text.specs.Fits.{IsFit}
-use Rattle.sei_main.specs.declared.script.line.ScriptLine.{ScriptLine}
-use Rattle.sei_main.specs.declared.script.line.ScriptLine.TheVariants as lines
-use Rattle.sei_main.specs.Context.{geometry_of}
-use Rattle.sei_main.specs.SaysBytes.{SaysBytes}
-use Rattle.sei_main.specs.Own.{messages_of}
-use Rattle.sei_main.specs.Events.{Event, entries_of}
-use Rattle.sei_main.specs.Seats.{Seat, empty_seat, fed_more, taken_more}
-use Rattle.sei_main.specs.State.{Answering, StateOf, ToldOf, WentOf, clock_answer, entry_for, entry_events, closed_events, limits_of, next_request, bytes_waiting, idle, behind, seat_at, answers_by, step_front_by, step_by, round_from_by, round_by, rounds_by, led_by}
+use Rattle.sei_fault.specs.declared.plan.Planned.{Planned}
+use Rattle.sei_traverse.specs.declared.turned.State.{State as EndState}
+use Rattle.sei_traverse.specs.declared.turned.State.TheVariants.{Finished}
+use Rattle.sei_script.specs.AbortLines.{end_text}
+use Rattle.sei_script.specs.declared.line.ScriptLine.{ScriptLine}
+use Rattle.sei_script.specs.declared.line.ScriptLine.TheVariants as lines
+use Rattle.sei_script.specs.Context.{geometry_of}
+use Rattle.sei_script.specs.SaysBytes.{SaysBytes}
+use Rattle.sei_main.specs.declared.plans.CallNumber.{CallNumber}
+use Rattle.sei_main.specs.declared.world.service.Served.{Served}
+use Rattle.sei_main.specs.Answering.{Asked, Answering, plain_served}
+use Rattle.sei_main.specs.Asked.{IsCallAt}
+use Rattle.sei_main.specs.Own.{message_of, messages_of}
+use Rattle.sei_main.specs.Events.{Event, Entered, entries_of}
+use Rattle.sei_main.specs.History.{Entry}
+use Rattle.sei_main.specs.Plans.{plans_from, plans_of}
+use Rattle.sei_main.specs.Quiet.{is_quiet, is_quiet_line}
+use Rattle.sei_main.specs.Seats.{Seat, empty_seat, waiting, fed_more, taken_more}
+use Rattle.sei_main.specs.State.{State, Told, Went, StateOf, ToldOf, WentOf, answers, takes_request, step_front, step, entry_for, entry_events, closed_events, limits_of, next_request, bytes_waiting, idle, behind, seat_at, fed, round_from_by, round_by, rounds_by, led_by}
+use Rattle.sei_main.specs.Serving.{Asking, AnswersOf, asking_at, asked_in, served_events, sent_events, seat_for, closing_events, is_abort, on_with, answer_in, answers_by, takes_request_by, step_front_by, step_by}
 use Rattle.sei_main.specs.Run.{start_of, after_by, run_from_by, run_by}
 use Rattle.sei_main.specs.Report.{events_text, seats_text, closing_text, report_of}
-use Rattle.sei_main.proofs.Calls.{next_fits}
+use Rattle.sei_main.proofs.Answering.{entries_answered}
 use Rattle.sei_main.proofs.SeatBytes.{IsFedBytes, fed_at}
 
--- related servers answer each good call alike, and are related behind it
-pub record AnswerAlike {S T : Type 0} (left : Answering S) (right : Answering T) (Good : Placed → Type 0) (R : S → T → Type 0) : Type 0 where
-  pub reply : (s : S) (t : T) (p : Placed) → Good p → R s t → (left s clock_answer p).1 ≡ (right t clock_answer p).1
-  pub next : (s : S) (t : T) (p : Placed) → Good p → R s t → R (left s clock_answer p).0 (right t clock_answer p).0
+-- a call of a request in bytes
+pub record IsAskedOf (g : Geometry) (a : Asked) : Type 0 where
+  pub call : IsCallAt (limits_of g) a.text a.nth a.placed
+  pub bytes : All (λ b. b < 256) a.text
+  pub small : a.now < 2 ^ 64
+  pub quiet : a.plan ≡ None
 
--- the calls of each request that may wait at a connection that was fed bytes are good
-abbrev pub AsksGood : (Placed → Type 0) → Geometry → Type 0
-AsksGood Good g = (seat : Seat) (size : ℕ) (m : Meaning) → All (λ b. b < 256) seat.fed → next_request (limits_of g) seat ≡ Some (size, m) → All Good (calls_of g.buckets m)
+-- a server, related to a plain one, serves each such call as the plain one does, and is related to it behind the call
+pub record ServesPlainly {S : Type 0} (answering : Answering S) (g : Geometry) (R : S → Server → Type 0) : Type 0 where
+  pub served : (s : S) (t : Server) (a : Asked) → IsAskedOf g a → R s t → (answering s a).1 ≡ plain_served a.now (server_answer t a.now a.placed).1
+  pub next : (s : S) (t : Server) (a : Asked) → IsAskedOf g a → R s t → R (answering s a).0 (server_answer t a.now a.placed).0
 
--- worlds of one geometry with related servers and the same connections, which were fed bytes
-pub record Alike {S T : Type 0} (R : S → T → Type 0) (g : Geometry) (s : StateOf S) (t : StateOf T) : Type 0 where
+-- the calls of each request that may wait at a connection that was fed bytes are those of its text
+abbrev pub AsksCalls : Geometry → Type 0
+AsksCalls g = (seat : Seat) (size : ℕ) (m : Meaning) → All (λ b. b < 256) seat.fed → next_request (limits_of g) seat ≡ Some (size, m) →
+    All (λ b. b < 256) (take size (waiting seat)) × ((k : ℕ) (p : Placed) → slice_get (calls_of g.buckets m) k ≡ Some p → IsCallAt (limits_of g) (take size (waiting seat)) k p)
+
+-- worlds of one geometry with related servers, the same connections, which were fed bytes, and the same clock; no fault is planned
+pub record Alike {S : Type 0} (R : S → Server → Type 0) (g : Geometry) (s : StateOf S) (t : State) : Type 0 where
   pub left : s.geometry ≡ g
   pub right : t.geometry ≡ g
   pub server : R s.server t.server
   pub seats : s.seats ≡ t.seats
   pub bytes : All IsFedBytes t.seats
+  pub clock : s.clock ≡ t.clock
+  pub small : t.clock < 2 ^ 64
+  pub plans : s.plans ≡ []
+  pub goes : s.aborted ≡ false
+  pub right_goes : t.aborted ≡ false
 
-pub record WentAlike {S T : Type 0} (R : S → T → Type 0) (g : Geometry) (v : WentOf S) (w : WentOf T) : Type 0 where
+pub record WentAlike {S : Type 0} (R : S → Server → Type 0) (g : Geometry) (v : WentOf S) (w : Went) : Type 0 where
   pub state : Alike R g v.state w.state
   pub events : v.events ≡ w.events
   pub went : v.went ≡ w.went
 
-pub record ToldAlike {S T : Type 0} (R : S → T → Type 0) (g : Geometry) (t : ToldOf S) (u : ToldOf T) : Type 0 where
+pub record ToldAlike {S : Type 0} (R : S → Server → Type 0) (g : Geometry) (t : ToldOf S) (u : Told) : Type 0 where
   pub state : Alike R g t.state u.state
   pub events : t.events ≡ u.events
 
-module _ {S T : Type 0} (R : S → T → Type 0) (g : Geometry) where
-  went_same : (v v' : WentOf S) (w w' : WentOf T) → v ≡ v' → w ≡ w' → WentAlike R g v' w' → WentAlike R g v w
-  went_same v v' w w' p q a = subst (λ (x : WentOf S). WentAlike R g x w) (sym p) (subst (λ (x : WentOf T). WentAlike R g v' x) (sym q) a)
+module _ {S : Type 0} (R : S → Server → Type 0) (g : Geometry) where
+  went_same : (v v' : WentOf S) (w w' : Went) → v ≡ v' → w ≡ w' → WentAlike R g v' w' → WentAlike R g v w
+  went_same v v' w w' p q a = subst (λ (x : WentOf S). WentAlike R g x w) (sym p) (subst (λ (x : Went). WentAlike R g v' x) (sym q) a)
 
-  idle_alike : (s : StateOf S) (t : StateOf T) → Alike R g s t → WentAlike R g (idle s) (idle t)
+  idle_alike : (s : StateOf S) (t : State) → Alike R g s t → WentAlike R g (idle s) (idle t)
   idle_alike s t a = record { state = a; events = refl; went = refl }
 
-  behind_alike : (v : WentOf S) (w : WentOf T) (k : StateOf S → WentOf S) (l : StateOf T → WentOf T) → WentAlike R g v w → ((s : StateOf S) (t : StateOf T) → Alike R g s t → WentAlike R g (k s) (l t))
+  behind_alike : (v : WentOf S) (w : Went) (k : StateOf S → WentOf S) (l : State → Went) → WentAlike R g v w → ((s : StateOf S) (t : State) → Alike R g s t → WentAlike R g (k s) (l t))
       → WentAlike R g (behind v k) (behind w l)
   behind_alike v w k l a next =
       let n : WentAlike R g (k v.state) (l w.state) = next v.state w.state a.state in
@@ -62,94 +89,158 @@ module _ {S T : Type 0} (R : S → T → Type 0) (g : Geometry) where
         went = ap (λ (b : Bool). b || (k v.state).went) a.went ∙ ap (λ (b : Bool). w.went || b) n.went;
       }
 
--- what a connection makes that takes a request of these calls
-abbrev took : {S : Type 0} → Answering S → StateOf S → ℕ → Seat → ℕ → Meaning → List Placed → WentOf S
-took answering s c seat size m calls =
-    let a = answers_by answering c seat.entered s.server calls in
-    record {
-      state = record s {
-        server = a.0;
-        seats = slice_set s.seats c (taken_more seat size (length calls) (length (messages_of (entries_of a.1))) (ends_connection m));
-      };
-      events = a.1 ++ closed_events c (ends_connection m);
-      went = true;
-    }
+-- the events of a call that is served plainly
+plain_events : (now c n : ℕ) (p : Placed) (reply : List ℕ) → served_events c n p (plain_served now reply) ≡ entry_events (entry_for now c n p reply)
+plain_events now c n p reply = ap (λ (es : List Event). Entered (entry_for now c n p reply) ∷ es) (append-nil (sent_events c reply))
 
-module _ {S T : Type 0} (left : Answering S) (right : Answering T) (Good : Placed → Type 0) (R : S → T → Type 0) (alike : AnswerAlike left right Good R) where
-  answers_alike : (c n : ℕ) (s : S) (t : T) (ps : List Placed) → All Good ps → R s t
-      → R (answers_by left c n s ps).0 (answers_by right c n t ps).0 × ((answers_by left c n s ps).1 ≡ (answers_by right c n t ps).1)
-  answers_alike c n s t [] good r = (r, refl)
-  answers_alike c n s t (p ∷ ps) good r =
-      let first : Good p = good 0 p (omega arith) in
-      let a = left s clock_answer p in
-      let b = right t clock_answer p in
-      let rest = answers_alike c (n + 1) a.0 b.0 ps (λ i d h. good (suc i) d (omega (arith, h))) (alike.next s t p first r) in (
-        rest.0,
-        ap (λ (reply : List ℕ). entry_events (entry_for c n p reply) ++ (answers_by left c (n + 1) a.0 ps).1) (alike.reply s t p first r)
-            ∙ ap (λ (es : List Event). entry_events (entry_for c n p b.1) ++ es) rest.1,
-      )
+-- calls that were answered alike
+pub record AnswersAlike {S : Type 0} (R : S → Server → Type 0) (messages : ℕ) (x : AnswersOf S) (y : Server × List Event) : Type 0 where
+  pub server : R x.server y.0
+  pub events : x.events ≡ y.1
+  pub messages_are : x.messages ≡ messages + length (messages_of (entries_of y.1))
+  pub finished : x.state ≡ Finished
 
-  took_alike : (g : Geometry) (s : StateOf S) (t : StateOf T) (c : ℕ) (seat : Seat) (size : ℕ) (m : Meaning) (calls : List Placed) → All Good calls → IsFedBytes seat → Alike R g s t
-      → WentAlike R g (took left s c seat size m calls) (took right t c seat size m calls)
-  took_alike g s t c seat size m calls good fed a =
-      let r = answers_alike c seat.entered s.server t.server calls good a.server in
-      let seat_after : List Event → Seat = λ events. taken_more seat size (length calls) (length (messages_of (entries_of events))) (ends_connection m) in
-      record {
-        state = record {
-          left = a.left;
-          right = a.right;
-          server = r.0;
-          seats = ap (λ (seats : List Seat). slice_set seats c (seat_after (answers_by left c seat.entered s.server calls).1)) a.seats
-              ∙ ap (λ (events : List Event). slice_set t.seats c (seat_after events)) r.1;
-          bytes = All-set IsFedBytes t.seats c (seat_after (answers_by right c seat.entered t.server calls).1) fed a.bytes;
-        };
-        events = ap (λ (events : List Event). events ++ closed_events c (ends_connection m)) r.1;
-        went = refl;
-      }
+module _ {S : Type 0} (answering : Answering S) (g : Geometry) (R : S → Server → Type 0) (plainly : ServesPlainly answering g R) where
+  answers_alike : (q : Asking) (nth messages number : ℕ) (s : S) (t : Server) (ps : List Placed) → q.now < 2 ^ 64 → q.plans ≡ [] → All (λ b. b < 256) q.text → number ≡ q.first + nth →
+      ((k : ℕ) (p : Placed) → slice_get ps k ≡ Some p → IsCallAt (limits_of g) q.text (nth + k) p) → R s t →
+      AnswersAlike R messages (answers_by answering q nth messages s ps) (answers q.now q.connection number t ps)
+  answers_alike q nth messages number s t [] small quiet bytes n calls r = record { server = r; events = refl; messages_are = omega arith; finished = refl }
+  answers_alike q nth messages number s t (p ∷ ps) small quiet bytes n calls r =
+      let a : Asked = asked_in q nth messages p in
+      let first : nth + 0 ≡ nth = omega arith in
+      let one : number + 1 ≡ q.first + (nth + 1) = omega (arith, n) in
+      let is : IsAskedOf g a = record {
+        call = subst (λ (k : ℕ). IsCallAt (limits_of g) q.text k p) first (calls 0 p refl);
+        bytes = bytes;
+        small = small;
+        quiet = ap (λ (plans : List (CallNumber × Planned)). (asked_in (record q { plans = plans }) nth messages p).plan) quiet;
+      } in
+      let reply : List ℕ = (server_answer t q.now p).1 in
+      let here : AnswersOf S = answer_in answering q nth messages s p in
+      let served : (answering s a).1 ≡ plain_served q.now reply = plainly.served s t a is r in
+      let happened : here.events ≡ entry_events (entry_for q.now q.connection number p reply) =
+      ap (served_events q.connection (q.first + nth) p) served ∙ plain_events q.now q.connection (q.first + nth) p reply ∙ ap (λ (m : ℕ). entry_events (entry_for q.now q.connection m p reply)) (sym n) in
+      let rest = answers_alike q (nth + 1) here.messages (number + 1) here.server (server_answer t q.now p).0 ps small quiet bytes one
+      (λ k d e. let next : nth + suc k ≡ nth + 1 + k = omega arith in subst (λ (j : ℕ). IsCallAt (limits_of g) q.text j d) next (calls (suc k) d e)) (plainly.next s t a is r) in
+      let later : AnswersOf S = answers_by answering q (nth + 1) here.messages here.server ps in
+      let there = answers q.now q.connection (number + 1) (server_answer t q.now p).0 ps in
+      let goes : here.state ≡ Finished = ap (λ (x : Served). x.state) served in
+      let sent : here.messages ≡ messages + length (message_of reply) = ap (λ (x : Served). messages + length (message_of x.message)) served in
+      let entry : Entry = entry_for q.now q.connection number p reply in
+      let count : length (messages_of (entries_of (entry_events entry ++ there.1))) ≡ length (message_of reply) + length (messages_of (entries_of there.1)) =
+      ap (λ (es : List Entry). length (messages_of es)) (entries_answered entry there.1) ∙ length-append (message_of reply) (messages_of (entries_of there.1)) in
+      subst (λ (x : EndState). AnswersAlike R messages (on_with here later x) (answers q.now q.connection number t (p ∷ ps))) (sym goes)
+      (record {
+        server = rest.server;
+        events = ap (λ (es : List Event). es ++ later.events) happened ∙ ap (λ (es : List Event). entry_events entry ++ es) rest.events;
+        messages_are = omega (arith, rest.messages_are, sent, count);
+        finished = rest.finished;
+      })
 
-  module _ (g : Geometry) (good : AsksGood Good g) where
-    step_front_alike : (s : StateOf S) (t : StateOf T) (c : ℕ) (seat : Seat) (o : Option (ℕ × Meaning)) → IsFedBytes seat → next_request (limits_of g) seat ≡ o → Alike R g s t
-        → WentAlike R g (step_front_by left s c seat o) (step_front_by right t c seat o)
+  -- a connection takes a request
+  took : (s : StateOf S) (t : State) (c : ℕ) (seat : Seat) (size : ℕ) (m : Meaning) (calls : List Placed) → calls ≡ calls_of g.buckets m → IsFedBytes seat → All (λ b. b < 256) (take size (waiting seat)) →
+      ((k : ℕ) (p : Placed) → slice_get calls k ≡ Some p → IsCallAt (limits_of g) (take size (waiting seat)) k p) → Alike R g s t → s.clock ≡ t.clock →
+      AnswersAlike R 0 (answers_by answering (asking_at s.clock s.plans c seat size) 0 0 s.server calls) (answers s.clock c seat.entered t.server calls)
+  took s t c seat size m calls are fed bytes each a same =
+      answers_alike (asking_at s.clock s.plans c seat size) 0 0 seat.entered s.server t.server calls (omega (arith, same, a.small)) a.plans bytes (omega arith)
+      (λ k p e. let zero_more : k ≡ 0 + k = omega arith in subst (λ (j : ℕ). IsCallAt (limits_of g) (take size (waiting seat)) j p) zero_more (each k p e)) a.server
+
+  module _ (asks : AsksCalls g) where
+    takes_alike : (s : StateOf S) (t : State) (c : ℕ) (seat : Seat) (size : ℕ) (m : Meaning) → IsFedBytes seat → next_request (limits_of g) seat ≡ Some (size, m) → Alike R g s t
+        → WentAlike R g (takes_request_by answering s c seat size m) (takes_request t c seat size m)
+    takes_alike s t c seat size m fed e a =
+        let n = asks seat size m fed e in
+        let closes : Bool = ends_connection m in
+        let left_calls : List Placed = calls_of s.geometry.buckets m in
+        let right_calls : List Placed = calls_of t.geometry.buckets m in
+        let left_are : left_calls ≡ calls_of g.buckets m = ap (λ (x : Geometry). calls_of x.buckets m) a.left in
+        let right_are : right_calls ≡ left_calls = ap (λ (x : Geometry). calls_of x.buckets m) a.right ∙ sym left_are in
+        let x = answers_by answering (asking_at s.clock s.plans c seat size) 0 0 s.server left_calls in
+        let y = answers t.clock c seat.entered t.server right_calls in
+        let plain : answers s.clock c seat.entered t.server left_calls ≡ y =
+        ap (λ (now : ℕ). answers now c seat.entered t.server left_calls) a.clock ∙ ap (λ (ps : List Placed). answers t.clock c seat.entered t.server ps) (sym right_are) in
+        let h : AnswersAlike R 0 x y =
+        subst (AnswersAlike R 0 x) plain
+        (took s t c seat size m left_calls left_are fed n.0 (λ k p f. n.1 k p (ap (λ (ps : List Placed). slice_get ps k) (sym left_are) ∙ f)) a a.clock) in
+        let count : x.messages ≡ length (messages_of (entries_of y.1)) = omega (arith, h.messages_are) in
+        let new : Seat = taken_more seat size (length right_calls) (length (messages_of (entries_of y.1))) closes in
+        let seat_is : seat_for x.state seat size (length left_calls) x.messages closes ≡ new =
+        ap (λ (state : EndState). seat_for state seat size (length left_calls) x.messages closes) h.finished
+        ∙ ap (λ (k : ℕ). taken_more seat size (length left_calls) k closes) count
+        ∙ ap (λ (ps : List Placed). taken_more seat size (length ps) (length (messages_of (entries_of y.1))) closes) (sym right_are) in
+        record {
+          state = record {
+            left = a.left;
+            right = a.right;
+            server = h.server;
+            seats = ap (λ (seats : List Seat). slice_set seats c (seat_for x.state seat size (length left_calls) x.messages closes)) a.seats ∙ ap (slice_set t.seats c) seat_is;
+            bytes = All-set IsFedBytes t.seats c new fed a.bytes;
+            clock = a.clock;
+            small = a.small;
+            plans = a.plans;
+            goes = ap is_abort h.finished;
+            right_goes = a.right_goes;
+          };
+          events = ap (λ (es : List Event). es ++ closing_events x.state c closes) h.events ∙ ap (λ (state : EndState). y.1 ++ closing_events state c closes) h.finished;
+          went = refl;
+        }
+
+    step_front_alike : (s : StateOf S) (t : State) (c : ℕ) (seat : Seat) (o : Option (ℕ × Meaning)) → IsFedBytes seat → next_request (limits_of g) seat ≡ o → Alike R g s t
+        → WentAlike R g (step_front_by answering s c seat o) (step_front t c seat o)
     step_front_alike s t c seat None fed e a = idle_alike R g s t a
-    step_front_alike s t c seat (Some request) fed e a =
-        let m : Meaning = request.1 in
-        went_same R g _ _ _ _
-        (ap (λ (x : Geometry). took left s c seat request.0 m (calls_of x.buckets m)) a.left)
-        (ap (λ (x : Geometry). took right t c seat request.0 m (calls_of x.buckets m)) a.right)
-        (took_alike g s t c seat request.0 m (calls_of g.buckets m) (good seat request.0 m fed e) fed a)
+    step_front_alike s t c seat (Some request) fed e a = takes_alike s t c seat request.0 request.1 fed e a
 
-    step_alike : (s : StateOf S) (t : StateOf T) (c : ℕ) → Alike R g s t → WentAlike R g (step_by left s c) (step_by right t c)
+    step_alike : (s : StateOf S) (t : State) (c : ℕ) → Alike R g s t → WentAlike R g (step_by answering s c) (step t c)
     step_alike s t c a =
         let seat : Seat = seat_at t c in
         went_same R g _ _ _ _
-        (ap (λ (seats : List Seat). step_front_by left s c (slice_index_or seats c empty_seat) (next_request (limits_of s.geometry) (slice_index_or seats c empty_seat))) a.seats
-        ∙ ap (λ (x : Geometry). step_front_by left s c seat (next_request (limits_of x) seat)) a.left)
-        (ap (λ (x : Geometry). step_front_by right t c seat (next_request (limits_of x) seat)) a.right)
+        (ap (λ (b : Bool). if b then idle s else step_front_by answering s c (seat_at s c) (next_request (limits_of s.geometry) (seat_at s c))) a.goes
+        ∙ ap (λ (seats : List Seat). step_front_by answering s c (slice_index_or seats c empty_seat) (next_request (limits_of s.geometry) (slice_index_or seats c empty_seat))) a.seats
+        ∙ ap (λ (x : Geometry). step_front_by answering s c seat (next_request (limits_of x) seat)) a.left)
+        (ap (λ (x : Geometry). step_front t c seat (next_request (limits_of x) seat)) a.right)
         (step_front_alike s t c seat (next_request (limits_of g) seat) (fed_at t.seats c a.bytes) refl a)
 
-    round_from_alike : (count c : ℕ) (s : StateOf S) (t : StateOf T) → Alike R g s t → WentAlike R g (round_from_by left count c s) (round_from_by right count c t)
+    round_from_alike : (count c : ℕ) (s : StateOf S) (t : State) → Alike R g s t → WentAlike R g (round_from_by (step_by answering) count c s) (round_from_by step count c t)
     round_from_alike zero c s t a = idle_alike R g s t a
     round_from_alike (suc count) c s t a =
-        behind_alike R g (step_by left s c) (step_by right t c) (round_from_by left count (c + 1)) (round_from_by right count (c + 1)) (step_alike s t c a) (round_from_alike count (c + 1))
+        behind_alike R g (step_by answering s c) (step t c) (round_from_by (step_by answering) count (c + 1)) (round_from_by step count (c + 1)) (step_alike s t c a) (round_from_alike count (c + 1))
 
-    round_alike : (s : StateOf S) (t : StateOf T) → Alike R g s t → WentAlike R g (round_by left s) (round_by right t)
+    round_alike : (s : StateOf S) (t : State) → Alike R g s t → WentAlike R g (round_by (step_by answering) s) (round_by step t)
     round_alike s t a =
-        went_same R g _ _ _ _ (ap (λ (seats : List Seat). round_from_by left (length seats) 0 s) a.seats) refl (round_from_alike (length t.seats) 0 s t a)
+        went_same R g _ _ _ _ (ap (λ (seats : List Seat). round_from_by (step_by answering) (length seats) 0 s) a.seats) refl (round_from_alike (length t.seats) 0 s t a)
 
-    rounds_if : (m : ℕ) (s : StateOf S) (t : StateOf T) (going : Bool) → WentAlike R g (round_by left s) (round_by right t)
-        → ((s : StateOf S) (t : StateOf T) → Alike R g s t → WentAlike R g (rounds_by left m s) (rounds_by right m t))
-        → WentAlike R g (if going then behind (round_by left s) (rounds_by left m) else round_by left s) (if going then behind (round_by right t) (rounds_by right m) else round_by right t)
-    rounds_if m s t true a next = behind_alike R g (round_by left s) (round_by right t) (rounds_by left m) (rounds_by right m) a next
+    rounds_if : (m : ℕ) (s : StateOf S) (t : State) (going : Bool) → WentAlike R g (round_by (step_by answering) s) (round_by step t)
+        → ((s : StateOf S) (t : State) → Alike R g s t → WentAlike R g (rounds_by (step_by answering) m s) (rounds_by step m t))
+        → WentAlike R g (if going then behind (round_by (step_by answering) s) (rounds_by (step_by answering) m) else round_by (step_by answering) s) (if going then behind (round_by step t) (rounds_by step m) else round_by step t)
+    rounds_if m s t true a next = behind_alike R g (round_by (step_by answering) s) (round_by step t) (rounds_by (step_by answering) m) (rounds_by step m) a next
     rounds_if m s t false a next = a
 
-    rounds_alike : (m : ℕ) (s : StateOf S) (t : StateOf T) → Alike R g s t → WentAlike R g (rounds_by left m s) (rounds_by right m t)
+    rounds_alike : (m : ℕ) (s : StateOf S) (t : State) → Alike R g s t → WentAlike R g (rounds_by (step_by answering) m s) (rounds_by step m t)
     rounds_alike zero s t a = idle_alike R g s t a
     rounds_alike (suc m) s t a =
-        let r : WentAlike R g (round_by left s) (round_by right t) = round_alike s t a in
-        went_same R g _ _ _ _ (ap (λ (b : Bool). if b then behind (round_by left s) (rounds_by left m) else round_by left s) r.went) refl
-        (rounds_if m s t (round_by right t).went r (rounds_alike m))
+        let r : WentAlike R g (round_by (step_by answering) s) (round_by step t) = round_alike s t a in
+        went_same R g _ _ _ _ (ap (λ (b : Bool). if b then behind (round_by (step_by answering) s) (rounds_by (step_by answering) m) else round_by (step_by answering) s) r.went) refl
+        (rounds_if m s t (round_by step t).went r (rounds_alike m))
 
-    led_alike : (s : StateOf S) (t : StateOf T) (line : ScriptLine) → SaysBytes line → Alike R g s t → WentAlike R g (led_by left s line) (led_by right t line)
+    fed_alike : (s : StateOf S) (t : State) (c : ℕ) (bytes : List ℕ) → All (λ b. b < 256) bytes → Alike R g s t → WentAlike R g (idle (fed s c bytes)) (idle (fed t c bytes))
+    fed_alike s t c bytes h a =
+        let seat : Seat = seat_at t c in
+        let fed_more_at : List Seat → List Seat = λ seats. slice_set seats c (fed_more (slice_index_or seats c empty_seat) bytes) in
+        idle_alike R g (record s { seats = fed_more_at s.seats }) (record t { seats = fed_more_at t.seats })
+        (record {
+          left = a.left;
+          right = a.right;
+          server = a.server;
+          seats = ap fed_more_at a.seats;
+          bytes = All-set IsFedBytes t.seats c (fed_more seat bytes) (All-append (λ b. b < 256) seat.fed bytes (fed_at t.seats c a.bytes) h) a.bytes;
+          clock = a.clock;
+          small = a.small;
+          plans = a.plans;
+          goes = a.goes;
+          right_goes = a.right_goes;
+        })
+
+    led_alike : (s : StateOf S) (t : State) (line : ScriptLine) → SaysBytes line → Alike R g s t → WentAlike R g (led_by (step_by answering) s line) (led_by step t line)
     unfolding led_by
     led_alike s t (lines.Geometry n) h a = idle_alike R g s t a
     led_alike s t (lines.Open c) h a =
@@ -160,44 +251,72 @@ module _ {S T : Type 0} (left : Answering S) (right : Answering T) (Good : Place
           server = a.server;
           seats = ap (λ (seats : List Seat). seats ++ empty_seat ∷ []) a.seats;
           bytes = All-push IsFedBytes t.seats empty_seat a.bytes (All-nil (λ b. b < 256));
+          clock = a.clock;
+          small = a.small;
+          plans = a.plans;
+          goes = a.goes;
+          right_goes = a.right_goes;
         })
-    led_alike s t (lines.Say c bytes) h a =
-        let seat : Seat = seat_at t c in
-        let fed_more_at : List Seat → List Seat = λ seats. slice_set seats c (fed_more (slice_index_or seats c empty_seat) bytes) in
-        idle_alike R g (record s { seats = fed_more_at s.seats }) (record t { seats = fed_more_at t.seats })
-        (record {
-          left = a.left;
-          right = a.right;
-          server = a.server;
-          seats = ap fed_more_at a.seats;
-          bytes = All-set IsFedBytes t.seats c (fed_more seat bytes) (All-append (λ b. b < 256) seat.fed bytes (fed_at t.seats c a.bytes) h) a.bytes;
-        })
+    led_alike s t (lines.Say c bytes) h a = fed_alike s t c bytes h a
+    led_alike s t (lines.Hex c bytes) h a = fed_alike s t c bytes h a
     led_alike s t lines.Drain h a =
-        went_same R g _ _ _ _ (ap (λ (seats : List Seat). rounds_by left (bytes_waiting seats + 1) s) a.seats) refl (rounds_alike (bytes_waiting t.seats + 1) s t a)
+        went_same R g _ _ _ _ (ap (λ (seats : List Seat). rounds_by (step_by answering) (bytes_waiting seats + 1) s) a.seats) refl (rounds_alike (bytes_waiting t.seats + 1) s t a)
+    led_alike s t (lines.Clock now) h a =
+        idle_alike R g (record s { clock = now }) (record t { clock = now })
+        (record { left = a.left; right = a.right; server = a.server; seats = a.seats; bytes = a.bytes; clock = refl; small = h; plans = a.plans; goes = a.goes; right_goes = a.right_goes })
+    led_alike s t (lines.Fault c n plan) h a = idle_alike R g s t a
 
-    run_from_alike : (t : ToldOf S) (u : ToldOf T) (script : List ScriptLine) → All SaysBytes script → ToldAlike R g t u → ToldAlike R g (run_from_by left t script) (run_from_by right u script)
+    run_from_alike : (t : ToldOf S) (u : Told) (script : List ScriptLine) → All SaysBytes script → ToldAlike R g t u → ToldAlike R g (run_from_by (step_by answering) t script) (run_from_by step u script)
     run_from_alike t u [] h a = a
     run_from_alike t u (line ∷ script) h a =
-        let w : WentAlike R g (led_by left t.state line) (led_by right u.state line) = led_alike t.state u.state line (All-head SaysBytes line script h) a.state in
-        run_from_alike (after_by left t line) (after_by right u line) script (All-tail SaysBytes line script h)
+        let w : WentAlike R g (led_by (step_by answering) t.state line) (led_by step u.state line) = led_alike t.state u.state line (All-head SaysBytes line script h) a.state in
+        run_from_alike (after_by (step_by answering) t line) (after_by step u line) script (All-tail SaysBytes line script h)
         (record {
           state = w.state;
-          events = ap (λ (es : List Event). es ++ (led_by left t.state line).events) a.events ∙ ap (λ (es : List Event). u.events ++ es) w.events;
+          events = ap (λ (es : List Event). es ++ (led_by (step_by answering) t.state line).events) a.events ∙ ap (λ (es : List Event). u.events ++ es) w.events;
         })
 
-  -- the run of a script that says bytes has the same events and leaves the same connections
-  pub run_same : (script : List ScriptLine) → All SaysBytes script → AsksGood Good (geometry_of script) → (s : S) (t : T) → R s t → ToldAlike R (geometry_of script) (run_by left s script) (run_by right t script)
-  run_same script says good s t r =
-      run_from_alike (geometry_of script) good (start_of s script) (start_of t script) script says
-      (record { state = record { left = refl; right = refl; server = r; seats = refl; bytes = All-nil IsFedBytes }; events = refl })
+-- a quiet script plans nothing
+both : (a b : Bool) → (a && b) ≡ true → (a ≡ true) × (b ≡ true)
+both true b e = (refl, e)
+both false b e = cc
+
+plans_nothing : (script : List ScriptLine) → list_all is_quiet_line script ≡ true → plans_from [] script ≡ []
+plans_nothing [] e = refl
+plans_nothing (lines.Geometry g ∷ script) e = plans_nothing script (both true (list_all is_quiet_line script) e).1
+plans_nothing (lines.Open c ∷ script) e = plans_nothing script (both true (list_all is_quiet_line script) e).1
+plans_nothing (lines.Say c bytes ∷ script) e = plans_nothing script (both true (list_all is_quiet_line script) e).1
+plans_nothing (lines.Hex c bytes ∷ script) e = plans_nothing script (both true (list_all is_quiet_line script) e).1
+plans_nothing (lines.Drain ∷ script) e = plans_nothing script (both true (list_all is_quiet_line script) e).1
+plans_nothing (lines.Clock now ∷ script) e = plans_nothing script (both true (list_all is_quiet_line script) e).1
+plans_nothing (lines.Fault c t plan ∷ script) e = absurd (let z : ⊥ = cc in z)
+
+module _ {S : Type 0} (answering : Answering S) (R : S → Server → Type 0) (script : List ScriptLine) (plainly : ServesPlainly answering (geometry_of script) R) (says : All SaysBytes script) (asks : AsksCalls (geometry_of script))
+    (quiet : is_quiet script ≡ true) (s : S) (t : Server) (r : R s t) where
+  -- the run of a quiet script that says bytes has the same events and leaves the same connections
+  pub run_same : ToldAlike R (geometry_of script) (run_by (step_by answering) s script) (run_by step t script)
+  run_same =
+      run_from_alike answering (geometry_of script) R plainly asks (start_of s script) (start_of t script) script says
+      (record {
+        state = record {
+          left = refl;
+          right = refl;
+          server = r;
+          seats = refl;
+          bytes = All-nil IsFedBytes;
+          clock = refl;
+          small = omega arith;
+          plans = plans_nothing script quiet;
+          goes = refl;
+          right_goes = refl;
+        };
+        events = refl;
+      })
 
   -- and so the same report, with the history or without it
-  pub report_same : (script : List ScriptLine) → All SaysBytes script → AsksGood Good (geometry_of script) → (s : S) (t : T) → R s t → (history : Bool) → report_of history (run_by left s script) ≡ report_of history (run_by right t script)
-  report_same script says good s t r history =
-      let a = run_same script says good s t r in
-      ap (λ (es : List Event). events_text history es ++ closing_text (run_by left s script).state) a.events
-      ∙ ap (λ (seats : List Seat). events_text history (run_by right t script).events ++ (seats_text 0 seats ++ codes "end ok\n")) a.state.seats
-
--- each call that is asked is fit, where there is a bucket
-pub asks_fit : (g : Geometry) → 0 < g.buckets → AsksGood (IsFit (limits_of g)) g
-asks_fit g some seat size m fed e = next_fits (limits_of g) seat size m e some
+  pub report_same : (history : Bool) → report_of history (run_by (step_by answering) s script) ≡ report_of history (run_by step t script)
+  report_same history =
+      let a = run_same in
+      ap (λ (es : List Event). events_text history es ++ closing_text (run_by (step_by answering) s script).state) a.events
+      ∙ ap (λ (seats : List Seat). events_text history (run_by step t script).events ++ (seats_text 0 seats ++ end_text (run_by (step_by answering) s script).state.aborted)) a.state.seats
+      ∙ ap (λ (b : Bool). events_text history (run_by step t script).events ++ (seats_text 0 (run_by step t script).state.seats ++ end_text b)) (a.state.goes ∙ sym a.state.right_goes)

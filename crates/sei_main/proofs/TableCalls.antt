@@ -61,7 +61,7 @@ sealed_is g text nth coded p e found =
     ∙ ap (option_map (parsed_of g)) found
 
 -- so the text has the call
-has_it : (g : Geometry) (text : List ℕ) (nth : ℕ) (coded : Coded) (p : Placed) → coded ≡ seal nth → call_in (limits_of g) text nth ≡ Some p → has_call (count_of_calls g text) (read_of coded) ≡ true
+pub has_it : (g : Geometry) (text : List ℕ) (nth : ℕ) (coded : Coded) (p : Placed) → coded ≡ seal nth → call_in (limits_of g) text nth ≡ Some p → has_call (count_of_calls g text) (read_of coded) ≡ true
 has_it g text nth coded p e found =
     ap (λ (c : Coded). has_call (count_of_calls g text) (read_of c)) e
     ∙ ap (has_call (count_of_calls g text)) (read_sealed nth)

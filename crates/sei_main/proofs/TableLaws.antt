@@ -1,6 +1,8 @@
 -- A server as words answers as the plain server does.
 use Rattle.std.proofs.Common.{◌≡◌, ℕ, zero, suc, ◌^◌, ◌<◌, List, length, inl, inr, refl, sym, ap, ◌∙◌, subst, arith}
-use Rattle.std.specs.Prelude.{false, slice_set, slice_index_or, replicate}
+use Rattle.std.specs.Prelude.{All, false, slice_set, slice_index_or, replicate}
+use Rattle.std.specs.List.{range_with_len}
+use Rattle.std.proofs.lemmas.List.Elements.{All-map}
 use Rattle.std.proofs.lemmas.Bool.{cases_eq, both_ways}
 use Rattle.std.proofs.lemmas.List.{length-set, length-replicate, get_or-set_same, get_or-set_other}
 use Rattle.mc_model.specs.declared.geometry.Geometry.{Geometry}
@@ -24,10 +26,8 @@ use Rattle.sei_hand.specs.Served.{Stands}
 use Rattle.sei_hand.specs.Spaces.{rooms_of, space_of}
 use Rattle.sei_hand.proofs.HandsLaws.{call_is_asked}
 use Rattle.sei_hand.proofs.Serving.{hands_serve}
-use Rattle.sei_main.specs.Tables.{Tables, fresh_tables, no_notes, bucket_words, setting_for, pass_end, table_answer, IsBucketOf, AreServer}
-use Rattle.sei_main.specs.State.{clock_answer}
+use Rattle.sei_main.specs.Tables.{Tables, IsOfGeometry, fresh_tables, no_notes, bucket_words, setting_for, pass_end, table_answer, IsBucketOf, AreServer}
 use Rattle.sei_main.proofs.NumberLaws.{numbered}
-use Rattle.sei_main.proofs.Simulated.{AnswerAlike}
 
 -- a call that is asked in bytes
 pub record IsGood (g : Geometry) (p : Placed) : Type 0 where
@@ -57,7 +57,7 @@ pass_ends g words b now p h =
     ap (λ (x : After). x.machine) (still_halted (setting_for g now p) (beginning (rooms_of g) words no_notes) h.end h.steps (space_of g).budget (omega (arith, h.ends.within)) h.ends.run.halts)
 
 -- one bucket has other words, and its bucket of the model is another
-next_each : (g : Geometry) (t : Tables) (s : Server) (p : Placed) (w : BucketWords) (x : Bucket) → t.geometry ≡ g → p.bucket < g.buckets → AreServer t s → IsBucketOf g (record s { buckets = slice_set s.buckets p.bucket x }) p.bucket w →
+pub next_each : (g : Geometry) (t : Tables) (s : Server) (p : Placed) (w : BucketWords) (x : Bucket) → t.geometry ≡ g → p.bucket < g.buckets → AreServer t s → IsBucketOf g (record s { buckets = slice_set s.buckets p.bucket x }) p.bucket w →
     (b : ℕ) → b < g.buckets → IsBucketOf g (record s { buckets = slice_set s.buckets p.bucket x }) b (bucket_words (record t { buckets = slice_set t.buckets p.bucket w }) b)
 next_each g t s p w x is within h new b lt = elim (cases_eq b p.bucket) [
   | inl e ↦
@@ -111,12 +111,9 @@ module _ (t : Tables) (s : Server) (now : ℕ) (small : now < 2 ^ 64) (p : Place
             (record { bucket = here.bucket; geometry = here.geometry; stands = subst (Stands t.geometry m.words) (sym there) held });
       }
 
--- so both answer alike
-pub tables_alike : (g : Geometry) → AnswerAlike table_answer server_answer (IsGood g) (AreServerOf g)
-tables_alike g = record {
-  reply = λ t s p good r. same_reply t s clock_answer (omega arith) p (subst (λ (y : Geometry). IsGood y p) (sym r.geometry) good) r.are;
-  next = λ t s p good r. record { geometry = r.geometry; are = still_server t s clock_answer (omega arith) p (subst (λ (y : Geometry). IsGood y p) (sym r.geometry) good) r.are };
-}
+-- fresh buckets are laid out as their geometry says
+pub fresh_laid_out : (g : Geometry) → All (IsOfGeometry g) (fresh_tables g).buckets
+fresh_laid_out g = All-map (IsOfGeometry g) (fresh_words g) (range_with_len 0 g.buckets) (λ k d lt. refl)
 
 -- before anything was asked
 pub fresh_are_server : (g : Geometry) → IsValid g → AreServerOf g (fresh_tables g) (empty_server g)

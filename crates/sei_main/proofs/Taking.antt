@@ -1,63 +1,84 @@
 -- A request is taken: the answers to its calls are written, and then that the connection closes.
-use Rattle.std.proofs.Common.{◌≡◌, ℕ, ◌<◌, ◌≤◌, Bool, List, ◌++◌, length, take, ap, sym, ◌∙◌, subst, arith, Option}
+use Rattle.std.proofs.Common.{◌≡◌, ℕ, ◌<◌, ◌≤◌, Bool, true, false, List, ◌++◌, length, take, refl, ap, sym, ◌∙◌, subst, arith, Option}
 use Rattle.std.specs.Io.KnownBytes.{append_known}
-use Rattle.std.proofs.lemmas.List.{length-take}
+use Rattle.std.proofs.lemmas.List.{length-take, append-nil}
 use Rattle.sei_outside.specs.Bytes.{WrotePart}
 use Rattle.sei_outside.proofs.Parts.{wrote_both, wrote_first, wrote_last}
 use Rattle.mc_text.specs.declared.request.Request.{Request}
 use Rattle.mc_text.specs.declared.limits.Limits.{Limits}
 use Rattle.mc_text.specs.Reading.{calls_at, meaning_at}
+use Rattle.sei_fault.specs.declared.plan.Planned.{Planned}
+use Rattle.sei_traverse.specs.declared.turned.State.{State}
+use Rattle.sei_traverse.specs.declared.turned.State.TheVariants.{Finished}
+use Rattle.sei_main.specs.declared.plans.CallNumber.{CallNumber}
+use Rattle.sei_main.specs.declared.world.state.Answered.{Answered}
+use Rattle.sei_main.specs.declared.world.state.Asking.{Asking as AskingOf}
+use Rattle.sei_main.specs.Answering.{Answering}
 use Rattle.sei_main.specs.Events.{Event}
 use Rattle.sei_main.specs.Seats.{Seat, waiting}
-use Rattle.sei_main.specs.State.{Answering, answers_by, closed_events}
-use Rattle.sei_main.specs.Becomes.{IsNextOf, answers_to, closes_behind, events_to}
-use Rattle.sei_main.specs.Report.{events_text, closing_line_text}
+use Rattle.sei_main.specs.Serving.{Asking, AnswersOf, asking_at, answers_by, closing_events}
+use Rattle.sei_main.specs.Becomes.{IsNextOf, IsAnswered, asking_of, answers_to, closes_behind, events_to}
+use Rattle.sei_script.specs.ReportLines.{closing_line_text}
+use Rattle.sei_main.specs.Report.{events_text}
 use Rattle.sei_main.proofs.Written.{events_append}
-use Rattle.sei_main.proofs.CallTexts.{closing_text_of}
+use Rattle.sei_main.proofs.CallTexts.{finished_text}
 use Rattle.sei_main.proofs.Calls.{few_calls}
 use Rattle.sei_main.proofs.Rounds.{IsWithin, next_within}
 
-module _ {S : Type 0} (answering : Answering S) where
-  -- the answers from a number that was read, to a request in bytes that were read
-  answers_read : (c : ℕ) (server : S) (seat : Seat) (size : ℕ) (request : Request) (first : ℕ) (bytes : List ℕ) → first ≡ seat.entered → bytes ≡ waiting seat
-      → answers_by answering c first server (calls_at (take size bytes) request) ≡ answers_to answering c server seat size request
-  answers_read c server seat size request first bytes f b =
-      ap (λ (n : ℕ). answers_by answering c n server (calls_at (take size bytes) request)) f ∙ ap (λ (bs : List ℕ). answers_by answering c seat.entered server (calls_at (take size bs) request)) b
+-- the connection is open
+pub next_open : (l : Limits) (seat : Seat) (size : ℕ) (request : Request) → IsNextOf l seat size request → seat.closed ≡ false
+next_open l seat size request n = (next_within l seat size (meaning_at (take size (waiting seat)) request) n.next).opened
 
-  events_to_text : (h : Bool) (c : ℕ) (server : S) (seat : Seat) (size : ℕ) (request : Request)
-      → events_text h (events_to answering c server seat size request) ≡ events_text h (answers_to answering c server seat size request).1 ++ closing_line_text c (closes_behind seat size request)
-  events_to_text h c server seat size request =
-      events_append h (answers_to answering c server seat size request).1 (closed_events c (closes_behind seat size request))
-      ∙ ap (λ (t : List ℕ). events_text h (answers_to answering c server seat size request).1 ++ t) (closing_text_of h c (closes_behind seat size request))
+module _ {S : Type 0} (answering : Answering S) (now : ℕ) (plans : List (CallNumber × Planned)) (h : Bool) (c : ℕ) (server : S) (seat : Seat) (size : ℕ) (request : Request)
+    (bytes : List ℕ) (first requests sent : ℕ) (b : bytes ≡ waiting seat) (f : first ≡ seat.entered) (r : requests ≡ seat.requests) (s : sent ≡ seat.sent) where
+  abbrev asking : ℕ → ℕ → ℕ → AskingOf
+  asking x y z = record { now = now; connection = c; first = x; numbers = record { request = y; reply = z } }
 
-  pub answers_part : (h : Bool) (c : ℕ) (server : S) (seat : Seat) (size : ℕ) (request : Request) (first : ℕ) (bytes : List ℕ) (old now : Option (List ℕ)) → first ≡ seat.entered → bytes ≡ waiting seat
-      → WrotePart old now (events_text h (answers_by answering c first server (calls_at (take size bytes) request)).1) → WrotePart old now (events_text h (events_to answering c server seat size request))
-  answers_part h c server seat size request first bytes old now f b w =
-      subst (λ (t : List ℕ). WrotePart old now t) (sym (events_to_text h c server seat size request))
-      (wrote_first old now (events_text h (answers_to answering c server seat size request).1) (closing_line_text c (closes_behind seat size request))
-      (subst (λ (p : S × List Event). WrotePart old now (events_text h p.1)) (answers_read c server seat size request first bytes f b) w))
+  abbrev read : AnswersOf S
+  read = answers_by answering (asking_of (asking first requests sent) (take size bytes) plans) 0 0 server (calls_at (take size bytes) request)
 
-  answers_all : (h : Bool) (c : ℕ) (server : S) (seat : Seat) (size : ℕ) (request : Request) (first : ℕ) (bytes : List ℕ) (old mid : Option (List ℕ)) → first ≡ seat.entered → bytes ≡ waiting seat
-      → mid ≡ append_known old (events_text h (answers_by answering c first server (calls_at (take size bytes) request)).1) → mid ≡ append_known old (events_text h (answers_to answering c server seat size request).1)
-  answers_all h c server seat size request first bytes old mid f b p = p ∙ ap (λ (q : S × List Event). append_known old (events_text h q.1)) (answers_read c server seat size request first bytes f b)
+  abbrev told : AnswersOf S
+  told = answers_to answering now plans c server seat size request
 
-  pub closing_part : (h : Bool) (c : ℕ) (server : S) (seat : Seat) (size : ℕ) (request : Request) (first : ℕ) (bytes : List ℕ) (closes : Bool) (old mid now : Option (List ℕ)) → first ≡ seat.entered → bytes ≡ waiting seat
-      → closes ≡ closes_behind seat size request → mid ≡ append_known old (events_text h (answers_by answering c first server (calls_at (take size bytes) request)).1)
-      → WrotePart mid now (closing_line_text c closes) → WrotePart old now (events_text h (events_to answering c server seat size request))
-  closing_part h c server seat size request first bytes closes old mid now f b e p w =
-      subst (λ (t : List ℕ). WrotePart old now t) (sym (events_to_text h c server seat size request))
-      (wrote_last old mid now (events_text h (answers_to answering c server seat size request).1) (closing_line_text c (closes_behind seat size request))
-      (answers_all h c server seat size request first bytes old mid f b p)
-      (subst (λ (x : Bool). WrotePart mid now (closing_line_text c x)) e w))
+  -- the answers to a request in bytes that were read, with numbers that were read, are those to the request
+  pub answers_read : read ≡ told
+  answers_read =
+      ap (λ (bs : List ℕ). answers_by answering (asking_of (asking first requests sent) (take size bs) plans) 0 0 server (calls_at (take size bs) request)) b
+      ∙ ap (λ (x : ℕ). answers_by answering (asking_of (asking x requests sent) (take size (waiting seat)) plans) 0 0 server (calls_at (take size (waiting seat)) request)) f
+      ∙ ap (λ (x : ℕ). answers_by answering (asking_of (asking seat.entered x sent) (take size (waiting seat)) plans) 0 0 server (calls_at (take size (waiting seat)) request)) r
+      ∙ ap (λ (x : ℕ). answers_by answering (asking_of (asking seat.entered seat.requests x) (take size (waiting seat)) plans) 0 0 server (calls_at (take size (waiting seat)) request)) s
 
-  pub closing_all : (h : Bool) (c : ℕ) (server : S) (seat : Seat) (size : ℕ) (request : Request) (first : ℕ) (bytes : List ℕ) (closes : Bool) (old mid now : Option (List ℕ)) → first ≡ seat.entered → bytes ≡ waiting seat
-      → closes ≡ closes_behind seat size request → mid ≡ append_known old (events_text h (answers_by answering c first server (calls_at (take size bytes) request)).1)
-      → now ≡ append_known mid (closing_line_text c closes) → now ≡ append_known old (events_text h (events_to answering c server seat size request))
-  closing_all h c server seat size request first bytes closes old mid now f b e p q =
-      wrote_both old mid now (events_text h (answers_to answering c server seat size request).1) (closing_line_text c (closes_behind seat size request))
-      (answers_all h c server seat size request first bytes old mid f b p)
-      (q ∙ ap (λ (x : Bool). append_known mid (closing_line_text c x)) e)
-      ∙ ap (append_known old) (sym (events_to_text h c server seat size request))
+  pub answers_part : (old new : Option (List ℕ)) → WrotePart old new (events_text h read.events) → WrotePart old new (events_text h (events_to answering now plans c server seat size request))
+  answers_part old new w =
+      subst (λ (t : List ℕ). WrotePart old new t) (sym (events_append h told.events (closing_events told.state c (closes_behind seat size request))))
+      (wrote_first old new (events_text h told.events) (events_text h (closing_events told.state c (closes_behind seat size request)))
+      (subst (λ (x : AnswersOf S). WrotePart old new (events_text h x.events)) answers_read w))
+
+  module _ (answered : Answered) (is : IsAnswered answered read) where
+    pub state_told : answered.state ≡ told.state
+    state_told = is.state ∙ ap (λ (x : AnswersOf S). x.state) answers_read
+
+    pub messages_told : answered.messages ≡ told.messages
+    messages_told = is.messages ∙ ap (λ (x : AnswersOf S). x.messages) answers_read
+
+    module _ (finished : answered.state ≡ Finished) (closes : Bool) (k : closes ≡ closes_behind seat size request) (old mid new : Option (List ℕ)) (p : mid ≡ append_known old (events_text h read.events)) where
+      text_told : events_text h (events_to answering now plans c server seat size request) ≡ events_text h told.events ++ closing_line_text c (closes_behind seat size request)
+      text_told = finished_text h told.events told.state c (closes_behind seat size request) (sym state_told ∙ finished)
+
+      mid_told : mid ≡ append_known old (events_text h told.events)
+      mid_told = p ∙ ap (λ (x : AnswersOf S). append_known old (events_text h x.events)) answers_read
+
+      pub closing_part : WrotePart mid new (closing_line_text c closes) → WrotePart old new (events_text h (events_to answering now plans c server seat size request))
+      closing_part w =
+          subst (λ (t : List ℕ). WrotePart old new t) (sym text_told)
+          (wrote_last old mid new (events_text h told.events) (closing_line_text c (closes_behind seat size request)) mid_told
+          (subst (λ (x : Bool). WrotePart mid new (closing_line_text c x)) k w))
+
+      pub closing_all : new ≡ append_known mid (closing_line_text c closes) → new ≡ append_known old (events_text h (events_to answering now plans c server seat size request))
+      closing_all q =
+          wrote_both old mid new (events_text h told.events) (closing_line_text c (closes_behind seat size request)) mid_told
+          (q ∙ ap (λ (x : Bool). append_known mid (closing_line_text c x)) k)
+          ∙ ap (append_known old) (sym text_told)
 
 pub text_length : (l : Limits) (seat : Seat) (size : ℕ) (request : Request) → IsNextOf l seat size request → length (take size (waiting seat)) ≡ size
 text_length l seat size request n = omega (arith, length-take size (waiting seat), n.within)
@@ -71,3 +92,9 @@ some_text l seat size request n =
 pub few_taken : (l : Limits) (seat : Seat) (size : ℕ) (request : Request) → IsNextOf l seat size request → length (calls_at (take size (waiting seat)) request) ≤ size
 few_taken l seat size request n =
     omega (arith, text_length l seat size request n, few_calls (take size (waiting seat)) request (some_text l seat size request n))
+
+-- nor more messages than what waits
+pub few_messages : (l : Limits) (seat : Seat) (size : ℕ) (request : Request) (bytes : List ℕ) (messages : ℕ) → IsNextOf l seat size request → bytes ≡ waiting seat → messages ≤ length (calls_at (take size bytes) request) →
+    messages ≤ length (waiting seat)
+few_messages l seat size request bytes messages n b few =
+    omega (arith, subst (λ (bs : List ℕ). messages ≤ length (calls_at (take size bs) request)) b few, few_taken l seat size request n, n.within)

@@ -1,14 +1,16 @@
 -- What a replay answers, and what it has written then.
-use Rattle.std.specs.Prelude.{◌≡◌, ℕ, Bool, false, List, ⊤, IfSome}
+use Rattle.std.specs.Prelude.{◌≡◌, ℕ, Bool, true, false, List, ⊤, IfSome, All}
 use Rattle.std.specs.declared.option.Option.{Option}
 use Rattle.std.specs.Io.KnownBytes.{append_known}
 use Rattle.sei_outside.specs.Bytes.{WrotePart}
-use Rattle.sei_main.specs.Reading.{Reading, Reads, Fails, reading_of}
-use Rattle.sei_main.specs.Limits.{script_limit}
-use Rattle.sei_main.specs.declared.script.line.ScriptLine.{ScriptLine}
-use Rattle.sei_main.specs.declared.script.line.Why.{Why}
-use Rattle.sei_main.specs.Run.{run_of}
-use Rattle.sei_main.specs.Report.{report_of, refusal_text}
+use Rattle.sei_script.specs.SaysBytes.{SaysBytes}
+use Rattle.sei_script.specs.Reading.{Reading, Reads, Fails, reading_of}
+use Rattle.sei_script.specs.Limits.{script_limit}
+use Rattle.sei_script.specs.declared.line.ScriptLine.{ScriptLine}
+use Rattle.sei_script.specs.declared.line.Why.{Why}
+use Rattle.sei_main.specs.Run.{struck_run_of}
+use Rattle.sei_script.specs.ReportLines.{refusal_text}
+use Rattle.sei_main.specs.Report.{report_of}
 use Rattle.sei_main.specs.declared.status.Status.{Status}
 use Rattle.sei_main.specs.declared.status.Status.TheVariants.{Ok, Usage, Script, Aborted, ReadFault, WriteFault, Memory, NetFault, JournalFull, JournalFault}
 
@@ -18,7 +20,7 @@ reading_in input = reading_of script_limit input
 
 -- what is to be written for a text that reads so
 abbrev pub output_of : Bool → Reading → List ℕ
-output_of history (Reads script) = report_of history (run_of script)
+output_of history (Reads script) = report_of history (struck_run_of script)
 output_of history (Fails line why) = refusal_text line why
 
 -- a fact of the script; a text that fails has none
@@ -30,15 +32,23 @@ OnScript (Fails line why) P = ⊥
 abbrev pub OnInput : Option (List ℕ) → (List ScriptLine → Type 0) → Type 0
 OnInput left P = IfSome left (λ input. OnScript (reading_in input) P)
 
+-- whether a traversal of the run is aborted
+abbrev pub is_aborted : List ScriptLine → Bool
+is_aborted script = (struck_run_of script).state.aborted
+
+-- what is so of a script that was run: it says bytes, and a traversal was aborted or none was
+abbrev pub RanTo : Bool → List ScriptLine → Type 0
+RanTo aborted script = All SaysBytes script × (is_aborted script ≡ aborted)
+
 -- what each status says of the text, and of what the sink held before and holds now; the others never come
 abbrev pub Answered : Bool → Reading → Option (List ℕ) → Option (List ℕ) → Status → Type 0
-Answered history reading old new Ok = OnScript reading (λ script. ⊤) × (new ≡ append_known old (output_of history reading))
+Answered history reading old new Ok = OnScript reading (RanTo false) × (new ≡ append_known old (output_of history reading))
+Answered history reading old new Aborted = OnScript reading (RanTo true) × (new ≡ append_known old (output_of history reading))
 Answered history reading old new (Script line why) = (reading ≡ Fails line why) × (new ≡ append_known old (output_of history reading))
 Answered history reading old new ReadFault = new ≡ old
 Answered history reading old new WriteFault = WrotePart old new (output_of history reading)
 Answered history reading old new Memory = WrotePart old new (output_of history reading)
 Answered history reading old new Usage = ⊥
-Answered history reading old new Aborted = ⊥
 Answered history reading old new NetFault = ⊥
 Answered history reading old new JournalFull = ⊥
 Answered history reading old new JournalFault = ⊥
@@ -46,20 +56,25 @@ Answered history reading old new JournalFault = ⊥
 -- the statuses that a replay may have
 abbrev pub IsReplayStatus : Status → Type 0
 IsReplayStatus Ok = ⊤
+IsReplayStatus Aborted = ⊤
 IsReplayStatus (Script line why) = ⊤
 IsReplayStatus ReadFault = ⊤
 IsReplayStatus WriteFault = ⊤
 IsReplayStatus Memory = ⊤
 IsReplayStatus Usage = ⊥
-IsReplayStatus Aborted = ⊥
 IsReplayStatus NetFault = ⊥
 IsReplayStatus JournalFull = ⊥
 IsReplayStatus JournalFault = ⊥
 
+-- how the run of a script ends
+abbrev pub end_status : Bool → Status
+end_status false = Ok
+end_status true = Aborted
+
 -- where no fault comes, the text alone decides, want of memory aside
 abbrev pub IsDecided : Reading → Status → Type 0
 IsDecided reading Memory = ⊤
-IsDecided (Reads script) status = status ≡ Ok
+IsDecided (Reads script) status = status ≡ end_status (is_aborted script)
 IsDecided (Fails line why) status = status ≡ Script line why
 
 -- the answers to a text that fails at a line

@@ -35,31 +35,3 @@ errand_for g text sealed p taken now = record {
   taken = taken;
   clock = Some now;
 }
-
--- how many steps a traversal has at most
-abbrev pub most_steps : Geometry → ℕ
-most_steps g = 2 * budget_of g + 6 * log_room g + 40
-
--- the bucket, where it is lent
-abbrev pub loan_of : Bool → BucketWords → Option BucketWords
-loan_of lent w = if lent then Some w else None
-
--- whether it is lent behind a step that wants this
-abbrev pub lent_behind : Want → Bool → Bool
-lent_behind Nothing lent = lent
-lent_behind (Take bucket) lent = true
-lent_behind Enter lent = lent
-lent_behind Give lent = false
-lent_behind Send lent = lent
-
--- a step of a traversal with the core that never strikes, at a time, with the bucket lent or not
-pub record IsStep (g : Geometry) (text : List ℕ) (now : ℕ) (lent : Bool) (old new : TraversalState) (before after : BucketWords) (core later : ℕ) (turned : Turned) : Type 0 where
-  pub sealed : new.walk.sealed ≡ old.walk.sealed
-  pub geometry : new.geometry ≡ old.geometry
-  pub steps : new.steps ≡ one_more old.steps
-  pub running : new.running ≡ goes_on turned.state
-  pub place : place_of (Some after) ≡ place_of (Some before)
-  pub still : lent ≡ false → after ≡ before
-  pub on_way : (e : Errand) (begin : Counts) → IsErrand e → e.clock ≡ Some now → e.service ≡ service_for g → e.input ≡ text →
-      Lends e old.walk.place.phase (loan_of lent before) → OnWay e old (lent_words (loan_of lent before)) begin (plain_counts core) →
-      StaysOnWay e old new (lent_words (loan_of lent after)) begin (plain_counts later) turned.want turned.state

@@ -1,10 +1,10 @@
 -- What is claimed of the run of a script.
-use Rattle.std.specs.Prelude.{◌≡◌, ℕ, true, List, [], length}
+use Rattle.std.specs.Prelude.{◌≡◌, ℕ, Bool, true, false, List, [], length}
 use Rattle.std.specs.List.{flat_map}
 use Rattle.mc_text.specs.Stream.{Takes, own_calls, own_requests, IsPrefixOf}
-use Rattle.sei_main.specs.declared.script.line.ScriptLine.{ScriptLine}
-use Rattle.sei_main.specs.declared.script.line.ScriptLine.TheVariants as lines
-use Rattle.sei_main.specs.Context.{geometry_of}
+use Rattle.sei_script.specs.declared.line.ScriptLine.{ScriptLine}
+use Rattle.sei_script.specs.declared.line.ScriptLine.TheVariants as lines
+use Rattle.sei_script.specs.Context.{geometry_of}
 use Rattle.sei_main.specs.Quiet.{is_quiet, ends_in_drain}
 use Rattle.std.specs.Prelude.{◌==◌, if◌then◌else◌}
 use Rattle.mc_text.specs.declared.limits.Limits.{Limits}
@@ -13,13 +13,17 @@ use Rattle.sei_main.specs.Own.{own_entries, calls_in, messages_of, accepted_of, 
 use Rattle.sei_main.specs.Events.{entries_of, sent_to}
 use Rattle.sei_main.specs.Seats.{waiting}
 use Rattle.sei_main.specs.State.{limits_of, seat_at}
-use Rattle.sei_main.specs.Run.{run_of}
+use Rattle.sei_main.specs.Run.{run_of, struck_run_of}
+use Rattle.sei_main.specs.Report.{report_of}
 
 abbrev pub fed_by : ℕ → ScriptLine → List ℕ
 fed_by c (lines.Geometry g) = []
 fed_by c (lines.Open d) = []
 fed_by c (lines.Say d bytes) = if d == c then bytes else []
+fed_by c (lines.Hex d bytes) = if d == c then bytes else []
 fed_by c lines.Drain = []
+fed_by c (lines.Clock now) = []
+fed_by c (lines.Fault d t plan) = []
 
 -- all bytes that a script feeds to a connection
 abbrev pub fed_to : ℕ → List ScriptLine → List ℕ
@@ -57,3 +61,15 @@ pub record AnswersAll (script : List ScriptLine) (c : ℕ) : Type 0 where
 
 abbrev pub AnswersAllRun : List ScriptLine → Type 0
 AnswersAllRun script = is_quiet script ≡ true → ends_in_drain script ≡ true → (c : ℕ) → AnswersAll script c
+
+-- what is claimed of quiet scripts
+abbrev pub WhenQuiet : (List ScriptLine → Type 0) → List ScriptLine → Type 0
+WhenQuiet P script = is_quiet script ≡ true → P script
+
+-- the run with no planned faults is that of the plain server: it has no abort, and the same report
+pub record IsPlain (history : Bool) (script : List ScriptLine) : Type 0 where
+  pub goes : (struck_run_of script).state.aborted ≡ false
+  pub report : report_of history (struck_run_of script) ≡ report_of history (run_of script)
+
+abbrev pub PlansFault : List ScriptLine → Type 0
+PlansFault script = is_quiet script ≡ false

@@ -1,5 +1,5 @@
 -- The entries of a connection, its calls, and its messages.
-use Rattle.std.specs.Prelude.{◌≡◌, ℕ, ◌+◌, ◌==◌, Bool, true, false, List, [], ◌∷◌, map, filter, ⊤}
+use Rattle.std.specs.Prelude.{◌≡◌, ℕ, ◌+◌, ◌==◌, List, [], ◌∷◌, map, filter, ⊤}
 use Rattle.std.specs.List.{flat_map}
 use Rattle.mc_model.specs.Call.{Placed}
 use Rattle.mc_text.specs.declared.limits.Limits.{Limits}
@@ -26,10 +26,6 @@ pub record IsNumbered (limits : Limits) (fed : List ℕ) (own : List Entry) : Ty
 abbrev pub message_of : List ℕ → List (List ℕ)
 message_of [] = []
 message_of (b ∷ bs) = (b ∷ bs) ∷ []
-
-abbrev pub is_message : List ℕ → Bool
-is_message [] = false
-is_message (b ∷ bs) = true
 
 abbrev pub messages_of : List Entry → List (List ℕ)
 messages_of entries = flat_map (λ entry. message_of entry.reply) entries

@@ -1,17 +1,24 @@
 -- The run of a script.
-use Rattle.std.specs.Prelude.{List, [], ◌∷◌}
-use Rattle.mc_model.specs.Server.{empty_server, server_answer}
-use Rattle.sei_main.specs.declared.script.line.ScriptLine.{ScriptLine}
-use Rattle.sei_main.specs.Context.{geometry_of}
-use Rattle.sei_main.specs.State.{Answering, ToldOf, Told, told, led_by}
+use Rattle.std.specs.Prelude.{false, List, [], ◌∷◌}
+use Rattle.mc_model.specs.Server.{empty_server}
+use Rattle.sei_script.specs.declared.line.ScriptLine.{ScriptLine}
+use Rattle.sei_script.specs.Context.{geometry_of}
+use Rattle.sei_main.specs.Plans.{plans_of}
+use Rattle.sei_main.specs.State.{Stepping, ToldOf, Told, told, led_by, step}
+use Rattle.sei_main.specs.Serving.{step_by}
+use Rattle.sei_main.specs.Tables.{Tables, fresh_tables}
+use Rattle.sei_main.specs.TableAnswers.{table_answering}
 
--- a server that was asked nothing yet, of the script's geometry, and no connection
+-- a server that was asked nothing yet, of the script's geometry, no connection, the clock at 0, and the planned faults
 abbrev pub start_of : {S : Type 0} → S → List ScriptLine → ToldOf S
-start_of server script = record { state = record { geometry = geometry_of script; server = server; seats = [] }; events = [] }
+start_of server script = record {
+  state = record { geometry = geometry_of script; server = server; seats = []; clock = 0; plans = plans_of script; aborted = false };
+  events = [];
+}
 
-module _ {S : Type 0} (answering : Answering S) where
+module _ {S : Type 0} (stepping : Stepping S) where
   abbrev pub after_by : ToldOf S → ScriptLine → ToldOf S
-  after_by t line = told t (led_by answering t.state line)
+  after_by t line = told t (led_by stepping t.state line)
 
   abbrev pub run_from_by : ToldOf S → List ScriptLine → ToldOf S
   run_from_by t [] = t
@@ -21,15 +28,19 @@ module _ {S : Type 0} (answering : Answering S) where
   abbrev pub run_by : S → List ScriptLine → ToldOf S
   run_by server script = run_from_by (start_of server script) script
 
--- the same of the plain server, which is empty at the start
+-- the run of a script with its planned faults, on a server as words
+abbrev pub struck_run_of : List ScriptLine → ToldOf Tables
+struck_run_of script = run_by (step_by table_answering) (fresh_tables (geometry_of script)) script
+
+-- the run on the plain server, which is empty at the start, and knows no faults
 abbrev pub start : List ScriptLine → Told
 start script = start_of (empty_server (geometry_of script)) script
 
 abbrev pub after : Told → ScriptLine → Told
-after = after_by server_answer
+after = after_by step
 
 abbrev pub run_from : Told → List ScriptLine → Told
-run_from = run_from_by server_answer
+run_from = run_from_by step
 
 abbrev pub run_of : List ScriptLine → Told
-run_of script = run_by server_answer (empty_server (geometry_of script)) script
+run_of script = run_by step (empty_server (geometry_of script)) script

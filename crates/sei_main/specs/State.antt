@@ -1,5 +1,5 @@
 -- The world of a script: its server and its connections, and what a line of the script does to them.
--- The server is any value with a function that answers calls; names that end in `_by` take that function.
+-- Names that end in `_by` take the function that makes a step of a connection, in which a server of some kind answers.
 use Rattle.std.specs.Prelude.{ℕ, zero, suc, ◌+◌, ◌*◌, Bool, true, false, ◌||◌, List, [], ◌∷◌, ◌++◌, length, slice_index_or, slice_set, if◌then◌else◌, Option, Some, None}
 use Rattle.std.specs.List.{flat_map}
 use Rattle.mc_model.specs.declared.geometry.Geometry.{Geometry}
@@ -8,21 +8,22 @@ use Rattle.mc_model.specs.Server.{Server, server_answer}
 use Rattle.mc_text.specs.declared.limits.Limits.{Limits}
 use Rattle.mc_text.specs.Meaning.{Meaning, calls_of, ends_connection}
 use Rattle.mc_text.specs.Front.{front}
-use Rattle.sei_main.specs.declared.script.line.ScriptLine.{ScriptLine}
-use Rattle.sei_main.specs.declared.script.line.ScriptLine.TheVariants as lines
+use Rattle.sei_fault.specs.declared.plan.Planned.{Planned}
+use Rattle.sei_script.specs.declared.line.ScriptLine.{ScriptLine}
+use Rattle.sei_script.specs.declared.line.ScriptLine.TheVariants as lines
+use Rattle.sei_main.specs.declared.plans.CallNumber.{CallNumber}
 use Rattle.sei_main.specs.History.{Entry}
 use Rattle.sei_main.specs.Own.{message_of, messages_of}
 use Rattle.sei_main.specs.Events.{Event, Entered, Sent, Closed, entries_of}
 use Rattle.sei_main.specs.Seats.{Seat, empty_seat, waiting, fed_more, taken_more}
 
--- how a server of some kind answers a call at a time: the server behind it, and the reply
-abbrev pub Answering : Type 0 → Type 0
-Answering S = S → ℕ → Placed → S × List ℕ
-
 pub record StateOf (S : Type 0) : Type 0 where
   pub geometry : Geometry
   pub server : S
   pub seats : List Seat
+  pub clock : ℕ  -- what the clock answers
+  pub plans : List (CallNumber × Planned)  -- the faults that are planned for its traversals
+  pub aborted : Bool  -- whether a traversal was aborted
 
 -- a state with all events that led to it
 pub record ToldOf (S : Type 0) : Type 0 where
@@ -39,13 +40,9 @@ pub record WentOf (S : Type 0) : Type 0 where
 abbrev pub limits_of : Geometry → Limits
 limits_of g = record { buckets = g.buckets; value_bytes = 8 * g.value_words }
 
--- the clock's answer, which no line of a script sets yet
-abbrev pub clock_answer : ℕ
-clock_answer = 0
-
--- a call of connection c, with this number there, gets this reply
-abbrev pub entry_for : ℕ → ℕ → Placed → List ℕ → Entry
-entry_for c number placed reply = record { connection = c; number = number; bucket = placed.bucket; now = clock_answer; call = placed.call; reply = reply }
+-- a call of connection c, with this number there, gets this reply at a time
+abbrev pub entry_for : ℕ → ℕ → ℕ → Placed → List ℕ → Entry
+entry_for now c number placed reply = record { connection = c; number = number; bucket = placed.bucket; now = now; call = placed.call; reply = reply }
 
 -- an entry, and behind it the message of its reply
 abbrev pub entry_events : Entry → List Event
@@ -81,42 +78,15 @@ module _ {S : Type 0} where
   abbrev pub fed : StateOf S → ℕ → List ℕ → StateOf S
   fed s c bytes = record s { seats = slice_set s.seats c (fed_more (seat_at s c) bytes) }
 
-module _ {S : Type 0} (answering : Answering S) where
-  -- calls of connection c are answered, numbered from `number` on: the server behind them, and what happens
-  abbrev pub answers_by : ℕ → ℕ → S → List Placed → S × List Event
-  answers_by c number server [] = (server, [])
-  answers_by c number server (placed ∷ later) =
-      let answer = answering server clock_answer placed in
-      let rest = answers_by c (number + 1) answer.0 later in
-      (rest.0, entry_events (entry_for c number placed answer.1) ++ rest.1)
+-- what one step of a connection does
+abbrev pub Stepping : Type 0 → Type 0
+Stepping S = StateOf S → ℕ → WentOf S
 
-  -- connection c, which stands so, takes a request of so many bytes: all its calls are answered
-  abbrev pub takes_request_by : StateOf S → ℕ → Seat → ℕ → Meaning → WentOf S
-  takes_request_by s c seat size meaning =
-      let calls = calls_of s.geometry.buckets meaning in
-      let a = answers_by c seat.entered s.server calls in
-      let closes = ends_connection meaning in
-      record {
-        state = record s {
-          server = a.0;
-          seats = slice_set s.seats c (taken_more seat size (length calls) (length (messages_of (entries_of a.1))) closes);
-        };
-        events = a.1 ++ closed_events c closes;
-        went = true;
-      }
-
-  abbrev pub step_front_by : StateOf S → ℕ → Seat → Option (ℕ × Meaning) → WentOf S
-  step_front_by s c seat None = idle s
-  step_front_by s c seat (Some request) = takes_request_by s c seat request.0 request.1
-
-  -- one step of a connection
-  abbrev pub step_by : StateOf S → ℕ → WentOf S
-  step_by s c = step_front_by s c (seat_at s c) (next_request (limits_of s.geometry) (seat_at s c))
-
+module _ {S : Type 0} (step : Stepping S) where
   -- one step of each of `count` connections from c on
   abbrev pub round_from_by : ℕ → ℕ → StateOf S → WentOf S
   round_from_by zero c s = idle s
-  round_from_by (suc count) c s = behind (step_by s c) (round_from_by count (c + 1))
+  round_from_by (suc count) c s = behind (step s c) (round_from_by count (c + 1))
 
   abbrev pub round_by : StateOf S → WentOf S
   round_by s = round_from_by (length s.seats) 0 s
@@ -135,9 +105,12 @@ module _ {S : Type 0} (answering : Answering S) where
   led_by s (lines.Geometry g) = idle s
   led_by s (lines.Open c) = idle (record s { seats = s.seats ++ empty_seat ∷ [] })
   led_by s (lines.Say c bytes) = idle (fed s c bytes)
+  led_by s (lines.Hex c bytes) = idle (fed s c bytes)
   led_by s lines.Drain = drained_by s
+  led_by s (lines.Clock now) = idle (record s { clock = now })
+  led_by s (lines.Fault c t plan) = idle s
 
--- the same of the plain server
+-- the same of the plain server, which knows no faults
 abbrev pub State : Type 0
 State = StateOf Server
 
@@ -147,23 +120,42 @@ Told = ToldOf Server
 abbrev pub Went : Type 0
 Went = WentOf Server
 
-abbrev pub answers : ℕ → ℕ → Server → List Placed → Server × List Event
-answers = answers_by server_answer
+-- calls of connection c are answered at a time, numbered from `number` on: the server behind them, and what happens
+abbrev pub answers : ℕ → ℕ → ℕ → Server → List Placed → Server × List Event
+answers now c number server [] = (server, [])
+answers now c number server (placed ∷ later) =
+    let answer = server_answer server now placed in
+    let rest = answers now c (number + 1) answer.0 later in
+    (rest.0, entry_events (entry_for now c number placed answer.1) ++ rest.1)
 
+-- connection c, which stands so, takes a request of so many bytes: all its calls are answered
 abbrev pub takes_request : State → ℕ → Seat → ℕ → Meaning → Went
-takes_request = takes_request_by server_answer
+takes_request s c seat size meaning =
+    let calls = calls_of s.geometry.buckets meaning in
+    let a = answers s.clock c seat.entered s.server calls in
+    let closes = ends_connection meaning in
+    record {
+      state = record s {
+        server = a.0;
+        seats = slice_set s.seats c (taken_more seat size (length calls) (length (messages_of (entries_of a.1))) closes);
+      };
+      events = a.1 ++ closed_events c closes;
+      went = true;
+    }
 
 abbrev pub step_front : State → ℕ → Seat → Option (ℕ × Meaning) → Went
-step_front = step_front_by server_answer
+step_front s c seat None = idle s
+step_front s c seat (Some request) = takes_request s c seat request.0 request.1
 
+-- one step of a connection
 abbrev pub step : State → ℕ → Went
-step = step_by server_answer
+step s c = step_front s c (seat_at s c) (next_request (limits_of s.geometry) (seat_at s c))
 
 abbrev pub round_from : ℕ → ℕ → State → Went
-round_from = round_from_by server_answer
+round_from = round_from_by step
 
 abbrev pub round : State → Went
-round = round_by server_answer
+round = round_by step
 
 abbrev pub rounds : ℕ → State → Went
-rounds = rounds_by server_answer
+rounds = rounds_by step

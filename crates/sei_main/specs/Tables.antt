@@ -1,5 +1,5 @@
 -- A server as words: each of its buckets is a list of words, and what answers a call is one pass of a table of statements.
-use Rattle.std.specs.Prelude.{◌≡◌, ℕ, ◌<◌, ◌*◌, true, false, List, map, length, slice_index_or, slice_set, Some, None}
+use Rattle.std.specs.Prelude.{◌≡◌, ℕ, ◌<◌, ◌*◌, true, false, List, map, length, slice_index_or, slice_set, Some, None, All}
 use Rattle.std.specs.List.{range_with_len}
 use Rattle.sei_log.specs.declared.notes.Notes.{Notes}
 use Rattle.mc_model.specs.declared.geometry.Geometry.{Geometry}
@@ -73,8 +73,12 @@ pub record AreServer (t : Tables) (s : Server) : Type 0 where
   pub buckets : length s.buckets ≡ t.geometry.buckets
   pub each : (b : ℕ) → b < t.geometry.buckets → IsBucketOf t.geometry s b (bucket_words t b)
 
--- tables stand for some server, and a traversal beside them is of their geometry
+-- the words of a bucket are of this geometry
+abbrev pub IsOfGeometry : Geometry → BucketWords → Type 0
+IsOfGeometry g w = w.geometry ≡ g
+
+-- tables are laid out as their geometry says, whatever their words are, and a traversal beside them is of the same geometry
 pub record IsTableServer (t : Tables) (traversal : TraversalState) : Type 0 where
   pub geometry : traversal.geometry ≡ t.geometry
-  pub server : Server
-  pub are : AreServer t server
+  pub valid : IsValid t.geometry
+  pub laid_out : All (IsOfGeometry t.geometry) t.buckets

@@ -1,10 +1,10 @@
 //! Replays a script of connections from standard input, and writes what happens to standard output.
 #![tactic(auto)]
 
+mod plans;
 mod replay;
 mod report;
 mod run;
-mod script;
 mod status;
 mod tables;
 #[cfg(test)]

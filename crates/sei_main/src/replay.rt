@@ -1,54 +1,66 @@
-ghost use Rattle.std.specs.Prelude.{◌≡◌, ◌≢◌, ◌≤◌, IfSome, OnOk, length, All};
+ghost use Rattle.std.specs.Prelude.{◌≡◌, ◌≢◌, ◌≤◌, IfSome, IfOk, OnOk, true, length};
 ghost use Rattle.std.specs.Io.KnownBytes.{IsAtEnd, append_known};
 ghost use Rattle.sei_outside.specs.Faults.{Rose};
 ghost use Rattle.sei_outside.specs.Bytes.{WrotePart};
 ghost use Rattle.mc_model.specs.Server.{IsValid};
-ghost use Rattle.sei_main.specs.Context.{empty_context, geometry_of};
-ghost use Rattle.sei_main.specs.Fit.{AreFit};
+ghost use Rattle.sei_script.specs.Context.{empty_context, geometry_of};
+ghost use Rattle.sei_script.specs.Fit.{AreFit};
 ghost use Rattle.sei_main.specs.State.{limits_of};
-ghost use Rattle.sei_main.specs.SaysBytes.{SaysBytes};
-ghost use Rattle.sei_main.specs.Run.{run_by, run_of};
+ghost use Rattle.sei_main.specs.Run.{run_by, struck_run_of};
+ghost use Rattle.sei_main.specs.Serving.{step_by};
 ghost use Rattle.sei_main.specs.Report.{report_of};
-ghost use Rattle.sei_main.specs.Headline.{IsLegalRun, IsNumberedRun, SendsRepliesRun, AnswersAllRun};
+ghost use Rattle.sei_main.specs.Headline.{IsPlain, WhenQuiet, PlansFault, IsLegalRun, IsNumberedRun, SendsRepliesRun, AnswersAllRun};
 ghost use Rattle.sei_main.specs.Answers.{Answered, OnInput, IsReplayStatus, Refused, IsDecided, reading_in};
 
-use crate::report::{Reporter, Stop, refusal_text, write_closing, write_text};
-use crate::script::{LIMIT, Script, ScriptFault, Why, read_script};
+use crate::plans::Plans;
+use crate::report::write_closing;
 use crate::status::Status;
 use crate::tables::TableServer;
 use crate::world::{Service, World};
 use sei_outside::{Sink, Source, Unread, read_all};
+use sei_script::{
+    LIMIT, Reporter, Script, ScriptFault, Stop, Why, read_script, refusal_text, write_text,
+};
 use std::alloc::Global;
 
-/// Runs a script on a server that was asked nothing yet, and writes its report as things happen.
+/// Runs a script on a server that was asked nothing yet, with its planned faults, and writes its report
+/// as things happen. Whether a traversal was aborted.
 fn run_on<S: Service + Drop, K: Sink>(
     reporter: Reporter,
     server: S,
     script: &Script,
     sink: &mut K,
-) -> Result<(), Stop>
+) -> Result<bool, Stop>
     requires fit { AreFit empty_context script.now }
     requires geometry { IsValid (geometry_of script.now) }
     requires limits { S.limits server ≡ limits_of (geometry_of script.now) }
-    ensures all { OnOk result (K.written sink.new ≡ append_known (K.written sink.old) (report_of reporter.history (run_by S.answering server script.now))) }
-    ensures part { WrotePart (K.written sink.old) (K.written sink.new) (report_of reporter.history (run_by S.answering server script.now)) }
+    ensures aborted { IfOk result (λ aborted. aborted ≡ (run_by (step_by S.answering) server script.now).state.aborted) }
+    ensures all { OnOk result (K.written sink.new ≡ append_known (K.written sink.old) (report_of reporter.history (run_by (step_by S.answering) server script.now))) }
+    ensures part { WrotePart (K.written sink.old) (K.written sink.new) (report_of reporter.history (run_by (step_by S.answering) server script.now)) }
     ensures fault { result ≡ Err Stop.WriteFault → Rose (K.faults sink.old) (K.faults sink.new) }
     ensures later { K.faults sink.old ≤ K.faults sink.new }
 {
-    let mut world = World::new(reporter.alloc, script.geometry(), server);
+    let plans = match Plans::of(reporter.alloc, script) {
+        Err(_) => return Err(Stop::Memory),
+        Ok(plans) => plans,
+    };
+    let mut world = World::new(reporter.alloc, script.geometry(), server, plans);
     for line in script.lines() {
         world.apply(reporter, line, sink)?;
     }
-    write_closing(reporter.alloc, sink, world.connections())
+    let aborted = world.is_aborted();
+    write_closing(reporter.alloc, sink, world.connections(), aborted)?;
+    Ok(aborted)
 }
 
-/// Runs a script and writes its report as things happen.
-fn run_script<K: Sink>(reporter: Reporter, script: &Script, sink: &mut K) -> Result<(), Stop>
+/// Runs a script with its planned faults, and writes its report as things happen. Whether a traversal
+/// was aborted.
+fn run_script<K: Sink>(reporter: Reporter, script: &Script, sink: &mut K) -> Result<bool, Stop>
     requires fit { AreFit empty_context script.now }
     requires geometry { IsValid (geometry_of script.now) }
-    requires bytes { All SaysBytes script.now }
-    ensures all { OnOk result (K.written sink.new ≡ append_known (K.written sink.old) (report_of reporter.history (run_of script.now))) }
-    ensures part { WrotePart (K.written sink.old) (K.written sink.new) (report_of reporter.history (run_of script.now)) }
+    ensures aborted { IfOk result (λ aborted. aborted ≡ (struck_run_of script.now).state.aborted) }
+    ensures all { OnOk result (K.written sink.new ≡ append_known (K.written sink.old) (report_of reporter.history (struck_run_of script.now))) }
+    ensures part { WrotePart (K.written sink.old) (K.written sink.new) (report_of reporter.history (struck_run_of script.now)) }
     ensures fault { result ≡ Err Stop.WriteFault → Rose (K.faults sink.old) (K.faults sink.new) }
     ensures later { K.faults sink.old ≤ K.faults sink.new }
 {
@@ -90,7 +102,8 @@ fn replay_text<K: Sink>(alloc: Global, text: Vec<u8>, sink: &mut K, history: boo
         Err(ScriptFault::Memory) => Status::Memory,
         Err(ScriptFault::Line { line, why }) => refuse(alloc, sink, line, why),
         Ok(script) => match run_script(Reporter { alloc, history }, &script, sink) {
-            Ok(()) => Status::Ok,
+            Ok(false) => Status::Ok,
+            Ok(true) => Status::Aborted,
             Err(Stop::Memory) => Status::Memory,
             Err(Stop::WriteFault) => Status::WriteFault,
         },
@@ -107,6 +120,7 @@ fn replay_all<S: Source, K: Sink>(
     ensures answer { IfSome (S.left source.old) (λ input. Answered history (reading_in input) (K.written sink.old) (K.written sink.new) result) }
     ensures status { IsReplayStatus result }
     ensures read_to_end { result ≡ Status.Ok → IsAtEnd (S.left source.new) }
+    ensures aborted_at_end { result ≡ Status.Aborted → IsAtEnd (S.left source.new) }
     ensures read_fault { result ≡ Status.ReadFault → Rose (S.faults source.old) (S.faults source.new) }
     ensures write_fault { result ≡ Status.WriteFault → Rose (K.faults sink.old) (K.faults sink.new) }
     ensures read_later { S.faults source.old ≤ S.faults source.new }
@@ -136,6 +150,7 @@ pub fn replay<S: Source, K: Sink>(
     ensures answer { IfSome (S.left source.old) (λ input. Answered history (reading_in input) (K.written sink.old) (K.written sink.new) result) }
     ensures status { IsReplayStatus result }
     ensures read_to_end { result ≡ Status.Ok → IsAtEnd (S.left source.new) }
+    ensures aborted_at_end { result ≡ Status.Aborted → IsAtEnd (S.left source.new) }
     ensures read_fault { result ≡ Status.ReadFault → Rose (S.faults source.old) (S.faults source.new) }
     ensures write_fault { result ≡ Status.WriteFault → Rose (K.faults sink.old) (K.faults sink.new) }
     ensures read_later { S.faults source.old ≤ S.faults source.new }
@@ -144,12 +159,15 @@ pub fn replay<S: Source, K: Sink>(
     ensures complete { ¬ Rose (S.faults source.old) (S.faults source.new) → ¬ Rose (K.faults sink.old) (K.faults sink.new)
         → IfSome (S.left source.old) (λ input. IsDecided (reading_in input) result) }
 
-    // The entries of the run are one legal history of a memcached of one thread,
-    ensures legal { result ≡ Status.Ok → OnInput (S.left source.old) IsLegalRun }
+    // A script that plans no fault is run as on the plain server, and is never aborted.
+    ensures quiet { result ≡ Status.Ok → OnInput (S.left source.old) (WhenQuiet (IsPlain history)) }
+    ensures planned { result ≡ Status.Aborted → OnInput (S.left source.old) PlansFault }
+    // The entries of such a run are one legal history of a memcached of one thread,
+    ensures legal { result ≡ Status.Ok → OnInput (S.left source.old) (WhenQuiet IsLegalRun) }
     // numbered in order for each connection, and asked as its own calls are;
-    ensures numbered { result ≡ Status.Ok → OnInput (S.left source.old) IsNumberedRun }
+    ensures numbered { result ≡ Status.Ok → OnInput (S.left source.old) (WhenQuiet IsNumberedRun) }
     // each connection is sent the messages of its first entries;
-    ensures sent { result ≡ Status.Ok → OnInput (S.left source.old) SendsRepliesRun }
+    ensures sent { result ≡ Status.Ok → OnInput (S.left source.old) (WhenQuiet SendsRepliesRun) }
     // and behind a last `drain` of a quiet script, all its calls are answered and all replies sent.
     ensures all_answered { result ≡ Status.Ok → OnInput (S.left source.old) AnswersAllRun }
 {

@@ -1,14 +1,14 @@
 ghost use Rattle.std.specs.Prelude.{◌≡◌, ◌≤◌, true, false, IfSome, map, string_bytes};
 ghost use Rattle.std.specs.Io.KnownBytes.{IsAtEnd};
 ghost use Rattle.sei_outside.specs.Faults.{Rose};
-ghost use Rattle.sei_main.specs.Headline.{IsLegalRun, IsNumberedRun, SendsRepliesRun, AnswersAllRun};
+ghost use Rattle.sei_main.specs.Headline.{IsPlain, WhenQuiet, PlansFault, IsLegalRun, IsNumberedRun, SendsRepliesRun, AnswersAllRun};
 ghost use Rattle.sei_main.specs.Answers.{Answered, OnInput, IsDecided, IsReplayStatus, reading_in};
 ghost use Rattle.sei_main.specs.Forms.{is_replay, UsageWritten};
 
 use crate::replay::replay;
-use crate::report::{Stop, write_text};
 use crate::status::Status;
 use sei_outside::{Sink, Source};
+use sei_script::{Stop, write_text};
 use std::alloc::Global;
 
 /// The line that is written where the words are no form.
@@ -54,11 +54,14 @@ pub fn run<S: Source, K: Sink>(
     ensures status { is_replay (map string_bytes words.now) ≡ true → IsReplayStatus result }
     ensures answer { is_replay (map string_bytes words.now) ≡ true → IfSome (S.left source.old) (λ input. Answered false (reading_in input) (K.written sink.old) (K.written sink.new) result) }
     ensures read_to_end { result ≡ Status.Ok → IsAtEnd (S.left source.new) }
+    ensures aborted_at_end { result ≡ Status.Aborted → IsAtEnd (S.left source.new) }
     ensures complete { is_replay (map string_bytes words.now) ≡ true → ¬ Rose (S.faults source.old) (S.faults source.new) → ¬ Rose (K.faults sink.old) (K.faults sink.new)
         → IfSome (S.left source.old) (λ input. IsDecided (reading_in input) result) }
-    ensures legal { result ≡ Status.Ok → OnInput (S.left source.old) IsLegalRun }
-    ensures numbered { result ≡ Status.Ok → OnInput (S.left source.old) IsNumberedRun }
-    ensures sent { result ≡ Status.Ok → OnInput (S.left source.old) SendsRepliesRun }
+    ensures quiet { result ≡ Status.Ok → OnInput (S.left source.old) (WhenQuiet (IsPlain false)) }
+    ensures planned { result ≡ Status.Aborted → OnInput (S.left source.old) PlansFault }
+    ensures legal { result ≡ Status.Ok → OnInput (S.left source.old) (WhenQuiet IsLegalRun) }
+    ensures numbered { result ≡ Status.Ok → OnInput (S.left source.old) (WhenQuiet IsNumberedRun) }
+    ensures sent { result ≡ Status.Ok → OnInput (S.left source.old) (WhenQuiet SendsRepliesRun) }
     ensures all_answered { result ≡ Status.Ok → OnInput (S.left source.old) AnswersAllRun }
 {
     if is_replay(words) {

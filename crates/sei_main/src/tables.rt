@@ -1,40 +1,42 @@
 //! A server whose buckets are words: it answers a call by one traversal, whose two passes of the table
-//! work on the words of the call's bucket.
-ghost use Rattle.std.specs.Prelude.{◌≡◌, ◌≤◌, IfOk, true, map, length};
+//! work on the words of the call's bucket, with the fault that is planned for it.
+ghost use Rattle.std.specs.Prelude.{◌≡◌, ◌+◌, ◌≤◌, IfOk, OnOk, true, map, length, All, None, Some};
 ghost use Rattle.std.specs.List.{range_with_len};
 ghost use Rattle.mc_model.specs.Server.{IsValid};
-ghost use Rattle.mc_model.specs.Views.{placed_of};
+ghost use Rattle.sei_fault.specs.Script.{script_counts};
 ghost use Rattle.sei_words.specs.Words.{fresh_words};
 ghost use Rattle.sei_stmt.specs.Handling.{parsed_words};
 ghost use Rattle.sei_pass.specs.Setting.{sealed_call};
 ghost use Rattle.sei_pass.specs.State.{input_room};
 ghost use Rattle.sei_hand.specs.Requests.{parsed_call};
-ghost use Rattle.sei_hand.specs.ReadCall.{IsReadCall};
-ghost use Rattle.sei_traverse.specs.Errand.{IsErrand};
+ghost use Rattle.sei_traverse.specs.Bounds.{most_steps};
 ghost use Rattle.sei_main.specs.State.{limits_of};
-ghost use Rattle.sei_main.specs.Tables.{fresh_tables, pass_end, table_answer};
-ghost use Rattle.sei_main.specs.Errands.{errand_for, most_steps, lent_behind, IsStep};
+ghost use Rattle.sei_main.specs.Tables.{fresh_tables, IsOfGeometry};
+ghost use Rattle.sei_main.specs.TableAnswers.{table_answering, sealed_for};
+ghost use Rattle.sei_main.specs.Course.{lent_behind, served_behind, is_ended, course_of};
+ghost use Rattle.sei_main.specs.Turning.{IsStep, IsTurn};
 
-use crate::world::{Numbers, Service};
+use crate::world::{Entered, Numbers, Served, Service};
 use mc_model::{CallSpan, Geometry};
 use sei_code::{Coded, Memory, Mode, message_code};
-use sei_fault::PlainCore;
+use sei_fault::{Planned, ScriptCore};
 use sei_hand::{Hands, HandsError};
 use sei_outside::SetClock;
 use sei_pass::Sealed;
+use sei_script::Text;
 use sei_traverse::{State, Traversal, Turned, Want};
 use sei_words::Words;
 use std::alloc::{AllocError, Global};
 use std::marker::Model;
 
-/// How many steps a traversal has at most.
+/// How many steps a traversal has at most, with one strike at most.
 fn most_steps(g: &Geometry) -> u64
     requires { IsValid g.now }
     ensures { result ≡ most_steps g.now }
 {
     let statements = 2000 + 400 * g.slots + 100 * g.value_words;
     let changes = 48 + g.slots + g.value_words;
-    2 * statements + 6 * changes + 40
+    2 * statements + 6 * changes + 26
 }
 
 /// The words of as many empty buckets as the geometry says.
@@ -49,71 +51,156 @@ fn fresh_buckets(alloc: Global, g: &Geometry) -> Result<Vec<Words>, Memory>
     Ok(buckets)
 }
 
-/// Whether the bucket is lent behind a step that wants this: it is from the want of `Take` to the want
-/// of `Give`.
-fn is_lent_behind(want: Want, lent: bool) -> bool
+/// The bucket that is lent behind a step that wants this: one is from the want of `Take` to the want of
+/// `Give`.
+fn lent_behind(want: Want, lent: Option<u64>) -> Option<u64>
     ensures { result ≡ lent_behind want lent }
 {
     match want {
-        Want::Take { .. } => true,
-        Want::Give => false,
+        Want::Take { bucket } => Some(bucket),
+        Want::Give => None,
         Want::Nothing | Want::Enter | Want::Send => lent,
     }
 }
 
-/// Makes a step of the traversal, with the bucket lent or not.
-fn turn(
+/// Makes a step of the traversal, with the words of a bucket lent.
+fn turn_on(
     traversal: &mut Traversal,
     hands: &Hands,
     text: &[u8],
     words: &mut Words,
-    lent: bool,
-    core: &mut PlainCore,
+    core: &mut ScriptCore,
     clock: &SetClock,
 ) -> Turned
     requires running { traversal.old.running ≡ true }
     requires room { length (parsed_words (sealed_call (parsed_call hands.now text.now) traversal.old.walk.sealed.nth)) ≤ input_room traversal.old.geometry }
     requires laid_out { words.old.geometry ≡ traversal.old.geometry }
-    ensures { IsStep hands.now text.now clock.now.at lent traversal.old traversal.new words.old words.new core.old core.new result }
+    ensures { IsStep hands.now text.now clock.now.at (Some words.old) (Some words.new) traversal.old traversal.new core.old core.new result }
 {
-    if lent {
-        traversal.step(hands, text, Some(words), core, clock)
-    } else {
-        traversal.step(hands, text, None, core, clock)
+    traversal.step(hands, text, Some(words), core, clock)
+}
+
+/// Makes a step of the traversal, with nothing lent.
+fn turn_alone(
+    traversal: &mut Traversal,
+    hands: &Hands,
+    text: &[u8],
+    core: &mut ScriptCore,
+    clock: &SetClock,
+) -> Turned
+    requires running { traversal.old.running ≡ true }
+    requires room { length (parsed_words (sealed_call (parsed_call hands.now text.now) traversal.old.walk.sealed.nth)) ≤ input_room traversal.old.geometry }
+    ensures { IsStep hands.now text.now clock.now.at None None traversal.old traversal.new core.old core.new result }
+{
+    traversal.step(hands, text, None, core, clock)
+}
+
+/// Makes a step of the traversal. The words of the bucket that is lent go with it; one that is not there
+/// has none.
+fn turn(
+    traversal: &mut Traversal,
+    hands: &Hands,
+    text: &[u8],
+    buckets: &mut Vec<Words>,
+    lent: Option<u64>,
+    core: &mut ScriptCore,
+    clock: &SetClock,
+) -> Turned
+    requires running { traversal.old.running ≡ true }
+    requires room { length (parsed_words (sealed_call (parsed_call hands.now text.now) traversal.old.walk.sealed.nth)) ≤ input_room traversal.old.geometry }
+    requires geometry { traversal.old.geometry ≡ hands.now }
+    requires laid_out { All (IsOfGeometry hands.now) buckets.old.items }
+    ensures turned { IsTurn hands.now text.now clock.now.at lent traversal.old traversal.new buckets.old.items buckets.new.items core.old core.new result }
+    ensures laid_out { All (IsOfGeometry hands.now) buckets.new.items }
+{
+    match lent {
+        Some(bucket) if bucket < buckets.len() as u64 => {
+            let words = &mut buckets[bucket as usize];
+            turn_on(traversal, hands, text, words, core, clock)
+        }
+        Some(_) => turn_alone(traversal, hands, text, core, clock),
+        None => turn_alone(traversal, hands, text, core, clock),
     }
 }
 
-/// Leads a traversal from its begin to its end, for the sealed call on the words of its bucket.
+/// A copy of bytes.
+fn copy(alloc: Global, bytes: &[u8]) -> Result<Text, Memory>
+    ensures { IfOk result (λ text. text ≡ bytes.now) }
+{
+    Ok(Text::new(Vec::from_slice(alloc, bytes)?))
+}
+
+/// Does what the last step wanted of the journal and of the connection: the call is entered, at the
+/// noted time, with the reply; the copy for the wire is sent.
+fn serve(
+    alloc: Global,
+    traversal: &Traversal,
+    turned: Turned,
+    served: &mut Served,
+) -> Result<(), Memory>
+    ensures { OnOk result (served.new ≡ served_behind turned.want traversal.now.walk served.old turned.state) }
+{
+    match turned.want {
+        Want::Enter => {
+            served.entered = Some(Entered {
+                now: traversal.now().unwrap_or(0),
+                reply: copy(alloc, traversal.reply())?,
+            });
+        }
+        Want::Send => served.message = copy(alloc, traversal.wire())?,
+        Want::Nothing | Want::Take { .. } | Want::Give => {}
+    }
+    served.state = turned.state;
+    Ok(())
+}
+
+/// Whether a traversal came to an end of whichever kind.
+fn is_ended(state: State) -> bool
+    ensures { result ≡ is_ended state }
+{
+    match state {
+        State::Went => false,
+        State::Finished | State::Refused | State::Aborted(_) => true,
+    }
+}
+
+/// Leads a traversal from its begin to its end, for the sealed call, with the fault that is planned for
+/// it. The error is want of memory.
 fn traverse(
+    alloc: Global,
     traversal: &mut Traversal,
     hands: &Hands,
-    words: &mut Words,
-    core: &mut PlainCore,
+    buckets: &mut Vec<Words>,
+    plan: Option<Planned>,
     now: u64,
     text: &[u8],
     sealed: Sealed,
-    call: &CallSpan,
     limit: u64,
-)
+) -> Result<Served, Memory>
     requires geometry { traversal.old.geometry ≡ hands.now }
-    requires laid_out { words.old.geometry ≡ hands.now }
-    requires bucket { words.old.bucket ≡ call.now.bucket }
-    requires read { IsReadCall hands.now (placed_of text.now call.now) }
-    requires errand { IsErrand (errand_for hands.now text.now sealed (placed_of text.now call.now) words.old.words now) }
-    requires limit { limit ≡ most_steps hands.now }
-    ensures words { words.new ≡ record words.old { words = (pass_end hands.now words.old.words now (placed_of text.now call.now)).words } }
-    ensures bytes { traversal.new.walk.second.bytes.items ≡ (pass_end hands.now words.old.words now (placed_of text.now call.now)).bytes.items }
+    requires laid_out { All (IsOfGeometry hands.now) buckets.old.items }
+    requires room { length (parsed_words (sealed_call (parsed_call hands.now text.now) sealed.nth)) ≤ input_room hands.now }
+    requires limit { limit ≡ most_steps hands.now + 1 }
+    ensures buckets { OnOk result (buckets.new.items ≡ (course_of hands.now text.now now buckets.old.items sealed plan).buckets) }
+    ensures served { IfOk result (λ served. served ≡ (course_of hands.now text.now now buckets.old.items sealed plan).served) }
+    ensures laid_out { All (IsOfGeometry hands.now) buckets.new.items }
     ensures geometry { traversal.new.geometry ≡ hands.now }
 {
     let clock = SetClock { at: now };
-    let mut lent = false;
+    let mut core = ScriptCore::new(plan);
+    let mut lent = None;
+    let mut served = Served {
+        entered: None,
+        message: Text::new(Vec::new(alloc)),
+        state: State::Went,
+    };
     traversal.begin(sealed, Mode::Plain);
     for _ in 0..limit {
-        let turned = turn(traversal, hands, text, words, lent, core, &clock);
-        match turned.state {
-            State::Went => lent = is_lent_behind(turned.want, lent),
-            State::Finished => return,
-            State::Refused | State::Aborted(_) => unreachable!(),
+        let turned = turn(traversal, hands, text, buckets, lent, &mut core, &clock);
+        lent = lent_behind(turned.want, lent);
+        serve(alloc, traversal, turned, &mut served)?;
+        if is_ended(turned.state) {
+            return Ok(served);
         }
     }
     unreachable!()
@@ -127,7 +214,6 @@ pub struct TableServer {
     hands: Hands,
     buckets: Vec<Words>,
     traversal: Traversal,
-    core: PlainCore,
 }
 
 impl Model for TableServer {
@@ -158,13 +244,24 @@ impl TableServer {
             hands,
             buckets: fresh_buckets(alloc, &geometry)?,
             traversal: Traversal::new(alloc, &geometry)?,
-            core: PlainCore::new(),
         })
     }
 }
 
+/// The call of a request that was let in.
+fn sealed_for(text: &[u8], nth: u64, numbers: Numbers) -> Sealed
+    ensures { result ≡ sealed_for text.now nth numbers }
+{
+    Sealed {
+        number: numbers.request,
+        nth: Coded::seal(nth),
+        code: message_code(numbers.request, text),
+        answer: numbers.reply,
+    }
+}
+
 impl Service for TableServer {
-    ghost answering = { table_answer };
+    ghost answering = { table_answering };
 
     ghost limits = { λ t. limits_of t.geometry };
 
@@ -173,30 +270,22 @@ impl Service for TableServer {
         now: u64,
         text: &[u8],
         nth: u64,
-        call: &CallSpan,
+        _call: &CallSpan,
         numbers: Numbers,
-    ) -> Result<Vec<u8>, Memory> {
-        let sealed = Sealed {
-            number: numbers.request,
-            nth: Coded::seal(nth),
-            code: message_code(numbers.request, text),
-            answer: numbers.reply,
-        };
-        let limit = most_steps(&self.geometry);
-        let words = &mut self.buckets[call.bucket as usize];
+        plan: Option<Planned>,
+    ) -> Result<Served, Memory> {
+        let sealed = sealed_for(text, nth, numbers);
+        let limit = most_steps(&self.geometry) + 1;
         traverse(
+            self.alloc,
             &mut self.traversal,
             &self.hands,
-            words,
-            &mut self.core,
+            &mut self.buckets,
+            plan,
             now,
             text,
             sealed,
-            call,
             limit,
-        );
-        let mut reply = Vec::new(self.alloc);
-        reply.extend_from_slice(self.traversal.reply())?;
-        Ok(reply)
+        )
     }
 }

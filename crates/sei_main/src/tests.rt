@@ -114,6 +114,14 @@ fn ends_other_than_ok(rt: HostRuntime) -> Result<(), Fail> {
             "script line 2: unfinished line\n",
         ),
         ("replay", "drain\n", 9, 0, 5, ""),
+        (
+            "replay",
+            "geometry 1 1 3\nopen 0 plain\nfault 0 0 guard at 0 skip\nfault 0 0 send at 0 skip\n",
+            9,
+            9,
+            2,
+            "script line 4: second fault\n",
+        ),
         ("history", script, 9, 9, 1, usage),
         ("history", script, 9, 0, 5, ""),
     ];
@@ -146,6 +154,20 @@ fn histories(rt: HostRuntime) -> Result<(), Fail> {
 }
 
 #[test]
+fn clocks_and_bytes_in_hexadecimal_digits(rt: HostRuntime) -> Result<(), Fail> {
+    let script =
+        b"geometry 1 1 3\nopen 0 plain\nclock 1000\nsay 0 set a 0 100 1\\r\\nx\\r\\n\ndrain\nclock 1099\nhex 0 67657420610d0a\ndrain\nclock 1100\nhex 0 67657420610d0a\nfault 0 3 guard at 0 skip\ndrain\n";
+    let mut source = MemorySource::new(script.to_vec(rt.alloc())?, Vec::new(rt.alloc()));
+    let mut sink = MemorySink::new(rt.alloc(), 1000, Vec::new(rt.alloc()))?;
+    let status = replay(rt.alloc(), &mut source, &mut sink, true);
+    let report =
+        b"entry 0 0 0 1000 STORED\\r\\n\nsent 0 STORED\\r\\n\nentry 0 1 0 1099 VALUE a 0 1\\r\\nx\\r\\nEND\\r\\n\nsent 0 VALUE a 0 1\\r\\nx\\r\\nEND\\r\\n\nentry 0 2 0 1100 END\\r\\n\nsent 0 END\\r\\n\ntook 0 3\nend ok\n";
+    assert!(rt; sink.bytes() == report.as_slice());
+    assert_eq!(rt; status.code(), 0);
+    Ok(())
+}
+
+#[test]
 fn lists_with_room_for_one_take_one(rt: HostRuntime) -> Result<(), Fail> {
     let mut bytes = Buffer::new(rt.alloc(), 1)?;
     assert!(rt; bytes.push(7));
@@ -161,5 +183,132 @@ fn lists_with_room_for_one_take_one(rt: HostRuntime) -> Result<(), Fail> {
     let mut log = WriteLog::new(rt.alloc(), 1)?;
     assert!(rt; log.push(change));
     assert!(rt; !log.push(change));
+    Ok(())
+}
+
+/// Replays a script, and tells the status of the process and the report.
+fn replay_script(alloc: Global, script: &[u8]) -> Result<Outcome, Fail> {
+    let mut source = MemorySource::new(script.to_vec(alloc)?, Vec::new(alloc));
+    let mut sink = MemorySink::new(alloc, 100_000, Vec::new(alloc))?;
+    let status = replay(alloc, &mut source, &mut sink, false);
+    Ok(Outcome {
+        code: status.code(),
+        sink,
+    })
+}
+
+#[test]
+fn faults_in_the_first_call(rt: HostRuntime) -> Result<(), Fail> {
+    // A fault that is planned for the call of `set a 0 0 1`, and the report up to `left`.
+    let table = [
+        (
+            "second store 41 write 1",
+            "abort 0 0 verify differs 8\ntook 0 0\n",
+        ),
+        (
+            "restore at 0 skip",
+            "abort 0 0 compare differs 8\ntook 0 0\n",
+        ),
+        (
+            "restore at 0 read 0 1",
+            "abort 0 0 compare differs 8\ntook 0 0\n",
+        ),
+        ("first now jump send 0", "abort 0 0 send gate 2\ntook 0 0\n"),
+        ("first now jump done 0", "abort 0 0 done gate 2\ntook 0 0\n"),
+        (
+            "give at 0 jump first 0",
+            "abort 0 0 first bucket\ntook 0 0\n",
+        ),
+        (
+            "send at 0 repeat",
+            "sent 0 STORED\\r\\n\nabort 0 0 send gate 10\ntook 0 1\n",
+        ),
+        ("send at 0 skip", "abort 0 0 done gate 9\ntook 0 0\n"),
+        (
+            "second render write 1",
+            "abort 0 0 compare reply\ntook 0 0\n",
+        ),
+        ("verify at 9 write 1", "abort 0 0 verify wire\ntook 0 0\n"),
+    ];
+    for (fault, report) in &table {
+        let script = format!(in rt.alloc();
+            "geometry 1 1 3\nopen 0 plain\nfault 0 0 {fault}\nsay 0 set a 0 0 1\\r\\nx\\r\\n\ndrain\n"
+        )?;
+        let outcome = replay_script(rt.alloc(), script.as_bytes())?;
+        let report = format!(in rt.alloc(); "{report}left 0 16\nend aborted\n")?;
+        assert!(rt; outcome.sink.bytes() == report.as_bytes(), "{fault}");
+        assert_eq!(rt; outcome.code, 3, "{fault}");
+    }
+    Ok(())
+}
+
+#[test]
+fn faults_in_other_places(rt: HostRuntime) -> Result<(), Fail> {
+    // What follows the geometry, and the report, and the status.
+    let table = [
+        (
+            "1 2 3\nopen 0 plain\nfault 0 1 first load 3 read 1 1\nsay 0 set a 0 0 1\\r\\nx\\r\\nset a 0 0 1\\r\\ny\\r\\n\ndrain\n",
+            "sent 0 STORED\\r\\n\nabort 0 1 compare differs 1\ntook 0 1\nleft 0 16\nend aborted\n",
+            3,
+        ),
+        (
+            "1 1 3\nopen 0 plain\nfault 0 1 first load 3 read 1 1\nsay 0 set a 0 0 1\\r\\nx\\r\\nget a\\r\\n\ndrain\n",
+            "sent 0 STORED\\r\\n\nabort 0 1 compare reply\ntook 0 1\nleft 0 7\nend aborted\n",
+            3,
+        ),
+        (
+            "1 1 3\nopen 0 plain\nfault 0 0 first store 41 write 1\nsay 0 set a 0 0 1\\r\\nx\\r\\n\ndrain\n",
+            "sent 0 STORED\\r\\n\ntook 0 1\nend ok\n",
+            0,
+        ),
+        (
+            "2 1 3\nopen 0 plain\nfault 0 0 take at 0 read 0 1\nsay 0 get a\\r\\n\ndrain\n",
+            "abort 0 0 first bucket\ntook 0 0\nleft 0 7\nend aborted\n",
+            3,
+        ),
+        (
+            "1 1 3\nopen 0 plain\nclock 100\nfault 0 0 first now write 1\nsay 0 get a\\r\\n\ndrain\n",
+            "abort 0 0 compare differs 0\ntook 0 0\nleft 0 7\nend aborted\n",
+            3,
+        ),
+        (
+            "1 1 3\nopen 0 plain\nfault 0 0 guard at 0 skip\nfault 0 0 send at 0 skip\n",
+            "script line 4: second fault\n",
+            2,
+        ),
+        (
+            "1 1 3\nopen 0 plain\nsay 0 get a\\r\\nget a b\\r\\nget b\\r\\n\ndrain\nsay 0 get c\\r\\n\ndrain\nfault 0 2 guard at 0 flip\n",
+            "sent 0 END\\r\\n\nrefused 0\ntook 0 1\nleft 0 23\nend ok\n",
+            0,
+        ),
+    ];
+    for (text, report, code) in &table {
+        let script = format!(in rt.alloc(); "geometry {text}")?;
+        let outcome = replay_script(rt.alloc(), script.as_bytes())?;
+        assert!(rt; outcome.sink.bytes() == report.as_bytes(), "{text}");
+        assert_eq!(rt; outcome.code, *code, "{text}");
+    }
+    Ok(())
+}
+
+#[test]
+fn items_that_expire(rt: HostRuntime) -> Result<(), Fail> {
+    // What follows the geometry, and the report.
+    let table = [
+        (
+            "1 3 3\nopen 0 plain\nclock 1000\nsay 0 set a 0 2592000 1\\r\\nx\\r\\nset b 0 2592001 1\\r\\ny\\r\\nset c 0 -1 1\\r\\nz\\r\\nget c\\r\\n\ndrain\nclock 2592001\nsay 0 get a b\\r\\n\ndrain\nclock 2593000\nsay 0 get a\\r\\n\ndrain\nclock 5\nsay 0 get a\\r\\n\ndrain\n",
+            "sent 0 STORED\\r\\n\nsent 0 STORED\\r\\n\nsent 0 STORED\\r\\n\nsent 0 END\\r\\n\nsent 0 VALUE a 0 1\\r\\nx\\r\\n\nsent 0 END\\r\\n\nsent 0 END\\r\\n\nsent 0 END\\r\\n\ntook 0 8\nend ok\n",
+        ),
+        (
+            "1 1 3\nopen 0 plain\nclock 100\nsay 0 set a 0 10 1\\r\\nx\\r\\nset b 0 0 1\\r\\ny\\r\\n\ndrain\nclock 110\nsay 0 set b 0 0 1\\r\\ny\\r\\n\ndrain\n",
+            "sent 0 STORED\\r\\n\nsent 0 SERVER_ERROR out of memory storing object\\r\\n\nsent 0 STORED\\r\\n\ntook 0 3\nend ok\n",
+        ),
+    ];
+    for (text, report) in &table {
+        let script = format!(in rt.alloc(); "geometry {text}")?;
+        let outcome = replay_script(rt.alloc(), script.as_bytes())?;
+        assert!(rt; outcome.sink.bytes() == report.as_bytes(), "{text}");
+        assert_eq!(rt; outcome.code, 0, "{text}");
+    }
     Ok(())
 }

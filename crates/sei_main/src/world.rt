@@ -5,5 +5,5 @@ mod service;
 mod state;
 
 pub use connection::Connection;
-pub use service::{Numbers, Service};
+pub use service::{Entered, Numbers, Served, Service};
 pub use state::World;

@@ -1,5 +1,5 @@
-ghost use Rattle.std.specs.Prelude.{◌≡◌, ◌+◌, ◌<◌, ◌≤◌, ◌++◌, ◌^◌, List, length, drop, OnOk, OnErr};
-ghost use Rattle.sei_main.specs.Seats.{Seat, empty_seat, waiting, fed_more, taken_more};
+ghost use Rattle.std.specs.Prelude.{◌≡◌, ◌+◌, ◌<◌, ◌≤◌, ◌++◌, ◌^◌, List, length, drop, false, OnOk, OnErr};
+ghost use Rattle.sei_main.specs.Seats.{Seat, empty_seat, waiting, fed_more, taken_more, stopped};
 
 use sei_code::Memory;
 use std::alloc::Global;
@@ -19,14 +19,14 @@ pub struct Connection {
 }
 
 impl Model for Connection {
-    ghost use Rattle.std.specs.Prelude.{◌≤◌, length};
+    ghost use Rattle.std.specs.Prelude.{◌≡◌, ◌≤◌, length, false};
     ghost use Rattle.sei_main.specs.Seats.{Seat};
 
     ghost Value = { Seat };
 
-    ghost view = { λ c. record { fed = c.fed.items; consumed = c.consumed; entered = c.entered; sent = c.sent; closed = c.closed } };
+    ghost view = { λ c. record { fed = c.fed.items; consumed = c.consumed; requests = c.requests; entered = c.entered; sent = c.sent; closed = c.closed } };
 
-    ghost invariant = { λ c. (c.consumed ≤ length c.fed.items) × (c.entered ≤ c.consumed) × (c.sent ≤ c.entered) };
+    ghost invariant = { λ c. (c.consumed ≤ length c.fed.items) × (c.sent ≤ length c.fed.items) × (c.closed ≡ false → (c.entered ≤ c.consumed) × (c.sent ≤ c.consumed)) };
 }
 
 impl Connection {
@@ -65,6 +65,7 @@ impl Connection {
 
     /// How many of its calls were answered, which is the number of the next one.
     pub fn entered(&self) -> u64
+        requires open { self.now.closed ≡ false }
         ensures entered { result ≡ self.now.entered }
         ensures room { result + length (waiting self.now) < 2 ^ 64 }
     {
@@ -72,7 +73,9 @@ impl Connection {
     }
 
     /// How many of its requests were answered, which is the number of the next one.
-    pub fn requests(&self) -> u64 {
+    pub fn requests(&self) -> u64
+        ensures { result ≡ self.now.requests }
+    {
         self.requests
     }
 
@@ -85,6 +88,7 @@ impl Connection {
 
     /// A request of `size` bytes was answered: so many calls, so many messages.
     pub fn took(&mut self, size: usize, calls: u64, messages: u64, closes: bool)
+        requires open { self.old.closed ≡ false }
         requires whole { size ≤ length (waiting self.old) }
         requires calls { calls ≤ size }
         requires messages { messages ≤ calls }
@@ -97,5 +101,16 @@ impl Connection {
         self.entered += calls;
         self.sent += messages;
         self.closed = closes;
+    }
+
+    /// A call of the first request that waits was refused or aborted, behind so many messages of the
+    /// request. Nothing more of the connection is answered.
+    pub fn stop(&mut self, messages: u64)
+        requires open { self.old.closed ≡ false }
+        requires messages { messages ≤ length (waiting self.old) }
+        ensures { self.new ≡ stopped self.old messages }
+    {
+        self.sent += messages;
+        self.closed = true;
     }
 }

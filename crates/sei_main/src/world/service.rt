@@ -1,13 +1,15 @@
 ghost use Rattle.std.specs.Prelude.{◌≡◌, ℕ, List, OnOk, IfOk, length};
-ghost use Rattle.mc_model.specs.Call.{Placed};
-ghost use Rattle.mc_model.specs.Server.{server_answer};
 ghost use Rattle.mc_model.specs.Views.{placed_of, IsSpanOf};
 ghost use Rattle.mc_text.specs.declared.limits.Limits.{Limits};
 ghost use Rattle.mc_text.specs.Fits.{HasOwnHash};
 ghost use Rattle.sei_main.specs.Asked.{IsCallAt};
+ghost use Rattle.sei_main.specs.Answering.{Answering, asked, plain_answering};
 
 use mc_model::{CallSpan, PlainServer};
 use sei_code::Memory;
+use sei_fault::Planned;
+use sei_script::Text;
+use sei_traverse::State;
 
 /// Which messages of its connection a call has to do with.
 #[derive(Clone, Copy, Debug, PartialEq, Eq)]
@@ -18,17 +20,38 @@ pub struct Numbers {
     pub reply: u64,
 }
 
-/// A server of calls: what it answers is a function of its state, the time and the call.
+/// The entry of a call.
+#[derive(Drop)]
+pub struct Entered {
+    /// The time at which it was carried out, in seconds since the start of 1970.
+    pub now: u64,
+    /// Its reply.
+    pub reply: Text,
+}
+
+/// What became of a call.
+#[derive(Drop)]
+pub struct Served {
+    /// Its entry, where it was entered.
+    pub entered: Option<Entered>,
+    /// The message that was sent; an empty one where none was.
+    pub message: Text,
+    /// How its traversal ended.
+    pub state: State,
+}
+
+/// A server of calls: what becomes of a call is a function of the server's state and of what it is asked.
 pub trait Service {
-    /// The server behind a call at a time, and the reply.
-    ghost answering: { Self → ℕ → Placed → Self × List ℕ };
+    /// The server behind a call, and what became of it.
+    ghost answering: { Answering Self };
 
     /// The limits of the requests that it is asked, which never change.
     ghost limits: { Self → Limits };
 
     /// Answers `call`, whose key and block are spans of `text`: call number `nth`, from 0, of the
-    /// request that `text` spells. `now` is in seconds since the start of 1970. What is answered does not
-    /// depend on `numbers`. After want of memory nothing is said of the server but its limits.
+    /// request that `text` spells. `now` is in seconds since the start of 1970, and `plan` is the fault
+    /// that is planned for its traversal. After want of memory nothing is said of the server but its
+    /// limits.
     fn answer(
         &mut self,
         now: u64,
@@ -36,17 +59,19 @@ pub trait Service {
         nth: u64,
         call: &CallSpan,
         numbers: Numbers,
-    ) -> Result<Vec<u8>, Memory>
+        plan: Option<Planned>,
+    ) -> Result<Served, Memory>
         requires span { IsSpanOf text.now call.now }
         requires hash { HasOwnHash text.now call.now }
         requires call { IsCallAt (limits self.old) text.now nth (placed_of text.now call.now) }
-        ensures server { OnOk result (self.new ≡ (answering self.old now (placed_of text.now call.now)).0) }
-        ensures reply { IfOk result (λ reply. reply.items ≡ (answering self.old now (placed_of text.now call.now)).1) }
+        ensures server { OnOk result (self.new ≡ (answering self.old (asked now text.now nth (placed_of text.now call.now) numbers plan)).0) }
+        ensures served { IfOk result (λ served. served ≡ (answering self.old (asked now text.now nth (placed_of text.now call.now) numbers plan)).1) }
         ensures limits { limits self.new ≡ limits self.old };
 }
 
+/// The plain server knows no faults: it enters each call, sends its reply, and finishes.
 impl Service for PlainServer {
-    ghost answering = { server_answer };
+    ghost answering = { plain_answering };
 
     ghost limits = { λ s. record { buckets = length s.buckets; value_bytes = s.room.value_bytes } };
 
@@ -57,7 +82,17 @@ impl Service for PlainServer {
         _nth: u64,
         call: &CallSpan,
         _numbers: Numbers,
-    ) -> Result<Vec<u8>, Memory> {
-        PlainServer::answer(self, now, text, call)
+        _plan: Option<Planned>,
+    ) -> Result<Served, Memory> {
+        let reply = PlainServer::answer(self, now, text, call)?;
+        let message = reply.clone()?;
+        Ok(Served {
+            entered: Some(Entered {
+                now,
+                reply: Text::new(reply),
+            }),
+            message: Text::new(message),
+            state: State::Finished,
+        })
     }
 }

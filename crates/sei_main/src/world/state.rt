@@ -1,4 +1,4 @@
-ghost use Rattle.std.specs.Prelude.{◌≡◌, ◌+◌, ◌<◌, ◌≤◌, [], ◌^◌, length, OnOk, IfOk, slice_set, slice_index_or};
+ghost use Rattle.std.specs.Prelude.{◌≡◌, ◌+◌, ◌<◌, ◌≤◌, [], ◌^◌, false, length, OnOk, IfOk, slice_set, slice_index_or};
 ghost use Rattle.std.specs.Io.KnownBytes.{append_known};
 ghost use Rattle.sei_outside.specs.Faults.{Rose};
 ghost use Rattle.sei_outside.specs.Bytes.{WrotePart};
@@ -6,27 +6,25 @@ ghost use Rattle.mc_model.specs.Server.{IsValid};
 ghost use Rattle.mc_model.specs.Views.{placed_of, IsSpanOf};
 ghost use Rattle.mc_text.specs.Fits.{HasOwnHash};
 ghost use Rattle.mc_text.specs.Reading.{IsReading, calls_at};
-ghost use Rattle.sei_main.specs.Own.{is_message, messages_of};
-ghost use Rattle.sei_main.specs.Events.{entries_of};
+ghost use Rattle.sei_script.specs.ReportLines.{is_message};
 ghost use Rattle.sei_main.specs.Seats.{empty_seat, fed_more};
-ghost use Rattle.sei_main.specs.State.{limits_of, clock_answer, entry_for, entry_events, answers_by, step_by, round_by, led_by};
+ghost use Rattle.sei_main.specs.State.{limits_of, round_by, led_by};
+ghost use Rattle.sei_main.specs.Serving.{answer_in, answers_by, is_abort, is_stopped, step_by};
 ghost use Rattle.sei_main.specs.Asked.{IsCallAt};
-ghost use Rattle.sei_main.specs.Becomes.{Becomes, IsNext, IsNextOf, IsKnown, answers_to, events_to, seat_behind};
-ghost use Rattle.sei_main.specs.Report.{events_text, line_text_by};
+ghost use Rattle.sei_main.specs.Becomes.{Becomes, IsNext, IsNextOf, IsKnown, IsAnswered, asking_of, answers_to, events_to, seat_behind};
+ghost use Rattle.sei_main.specs.Report.{entered_text, ended_text, served_text, events_text, line_text_by};
 
 use super::connection::Connection;
-use super::service::{Numbers, Service};
-use crate::report::{Reporter, Stop};
-use crate::script::ScriptLine;
+use super::service::{Entered, Numbers, Served, Service};
+use crate::plans::Plans;
 use mc_model::{CallSpan, Geometry};
 use mc_text::{Limits, ReadRequest, Request, parse, read_request};
 use sei_code::Memory;
 use sei_outside::Sink;
+use sei_script::{Reporter, ScriptLine, Stop};
+use sei_traverse::State;
 use std::alloc::Global;
 use std::marker::Model;
-
-/// The clock's answer, in seconds since the start of 1970; no line of a script sets it yet.
-const CLOCK: u64 = 0;
 
 /// A server, and the connections that were opened to it.
 #[derive(Drop)]
@@ -35,6 +33,12 @@ pub struct World<S: Service> {
     geometry: Geometry,
     server: S,
     connections: Vec<Connection>,
+    /// What the clock answers, in seconds since the start of 1970.
+    clock: u64,
+    /// The faults that are planned for traversals.
+    plans: Plans,
+    /// Whether a traversal was aborted; then no connection makes a step any more.
+    aborted: bool,
 }
 
 impl<S: Service> Model for World<S> {
@@ -44,124 +48,253 @@ impl<S: Service> Model for World<S> {
 
     ghost Value = { StateOf S };
 
-    ghost view = { λ w. record { geometry = w.geometry; server = w.server; seats = w.connections.items } };
+    ghost view = { λ w. record { geometry = w.geometry; server = w.server; seats = w.connections.items; clock = w.clock; plans = w.plans; aborted = w.aborted } };
 
     ghost invariant = { λ w. IsValid w.geometry × (S.limits w.server ≡ limits_of w.geometry) };
 }
 
-/// Answers a call, and writes its entry, which has this number, and its message; whether it has a
-/// message.
+/// A request whose calls are answered: when, whose it is, the number of its first call there, and the
+/// numbers of the request and of its first message.
+#[derive(Clone, Copy)]
+struct Asking {
+    now: u64,
+    connection: u32,
+    first: u64,
+    numbers: Numbers,
+}
+
+/// What became of calls of a request: how many messages of the request were sent so far, and how the
+/// last traversal ended.
+#[derive(Clone, Copy)]
+struct Answered {
+    messages: u64,
+    state: State,
+}
+
+/// Writes the line of an entry, where there is one.
+fn write_entered<K: Sink>(
+    reporter: Reporter,
+    sink: &mut K,
+    c: u32,
+    number: u64,
+    bucket: u64,
+    entered: &Option<Entered>,
+) -> Result<(), Stop>
+    ensures all { OnOk result (K.written sink.new ≡ append_known (K.written sink.old) (entered_text reporter.history c number bucket entered.now)) }
+    ensures part { WrotePart (K.written sink.old) (K.written sink.new) (entered_text reporter.history c number bucket entered.now) }
+    ensures fault { result ≡ Err Stop.WriteFault → Rose (K.faults sink.old) (K.faults sink.new) }
+    ensures later { K.faults sink.old ≤ K.faults sink.new }
+{
+    match entered {
+        None => Ok(()),
+        Some(entered) => {
+            reporter.write_entry(sink, c, number, bucket, entered.now, entered.reply.bytes())
+        }
+    }
+}
+
+/// Writes how a traversal ended, where it did not finish.
+fn write_ended<K: Sink>(
+    reporter: Reporter,
+    sink: &mut K,
+    c: u32,
+    number: u64,
+    state: State,
+) -> Result<(), Stop>
+    ensures all { OnOk result (K.written sink.new ≡ append_known (K.written sink.old) (ended_text c number state)) }
+    ensures part { WrotePart (K.written sink.old) (K.written sink.new) (ended_text c number state) }
+    ensures fault { result ≡ Err Stop.WriteFault → Rose (K.faults sink.old) (K.faults sink.new) }
+    ensures later { K.faults sink.old ≤ K.faults sink.new }
+{
+    match state {
+        State::Went | State::Finished => Ok(()),
+        State::Refused => reporter.write_refused(sink, c),
+        State::Aborted(abort) => reporter.write_abort(sink, c, number, abort.phase, abort.cause),
+    }
+}
+
+/// Writes what became of a call, which stands at this bucket and has this number at its connection;
+/// whether a message was sent.
+fn write_served<K: Sink>(
+    reporter: Reporter,
+    sink: &mut K,
+    c: u32,
+    number: u64,
+    bucket: u64,
+    served: &Served,
+) -> Result<bool, Stop>
+    ensures sent { IfOk result (λ sent. sent ≡ is_message served.now.message) }
+    ensures all { OnOk result (K.written sink.new ≡ append_known (K.written sink.old) (served_text reporter.history c number bucket served.now)) }
+    ensures part { WrotePart (K.written sink.old) (K.written sink.new) (served_text reporter.history c number bucket served.now) }
+    ensures fault { result ≡ Err Stop.WriteFault → Rose (K.faults sink.old) (K.faults sink.new) }
+    ensures later { K.faults sink.old ≤ K.faults sink.new }
+{
+    write_entered(reporter, sink, c, number, bucket, &served.entered)?;
+    let sent = reporter.write_message(sink, c, served.message.bytes())?;
+    write_ended(reporter, sink, c, number, served.state)?;
+    Ok(sent)
+}
+
+/// Answers call number `nth` of a request, behind so many of its messages, and writes what happens.
 fn answer_call<S: Service, K: Sink>(
     server: &mut S,
     reporter: Reporter,
-    c: u32,
-    number: u64,
+    asking: Asking,
+    plans: &Plans,
     text: &[u8],
     nth: u64,
+    messages: u64,
     call: &CallSpan,
-    numbers: Numbers,
     sink: &mut K,
-) -> Result<bool, Stop>
+) -> Result<Answered, Stop>
     requires span { IsSpanOf text.now call.now }
     requires hash { HasOwnHash text.now call.now }
     requires call { IsCallAt (S.limits server.old) text.now nth (placed_of text.now call.now) }
-    ensures server { OnOk result (server.new ≡ (S.answering server.old clock_answer (placed_of text.now call.now)).0) }
-    ensures sent { IfOk result (λ sent. sent ≡ is_message (S.answering server.old clock_answer (placed_of text.now call.now)).1) }
+    requires few { asking.first + nth + 1 < 2 ^ 64 }
+    requires messages { messages ≤ nth }
+    ensures server { OnOk result (server.new ≡ (answer_in S.answering (asking_of asking text.now plans.now) nth messages server.old (placed_of text.now call.now)).server) }
+    ensures answered { IfOk result (λ answered. IsAnswered answered (answer_in S.answering (asking_of asking text.now plans.now) nth messages server.old (placed_of text.now call.now))) }
+    ensures few { IfOk result (λ answered. answered.messages ≤ nth + 1) }
     ensures limits { S.limits server.new ≡ S.limits server.old }
-    ensures all { OnOk result (K.written sink.new ≡ append_known (K.written sink.old) (events_text reporter.history (entry_events (entry_for c number (placed_of text.now call.now) (S.answering server.old clock_answer (placed_of text.now call.now)).1)))) }
-    ensures part { WrotePart (K.written sink.old) (K.written sink.new) (events_text reporter.history (entry_events (entry_for c number (placed_of text.now call.now) (S.answering server.old clock_answer (placed_of text.now call.now)).1))) }
+    ensures all { OnOk result (K.written sink.new ≡ append_known (K.written sink.old) (events_text reporter.history (answer_in S.answering (asking_of asking text.now plans.now) nth messages server.old (placed_of text.now call.now)).events)) }
+    ensures part { WrotePart (K.written sink.old) (K.written sink.new) (events_text reporter.history (answer_in S.answering (asking_of asking text.now plans.now) nth messages server.old (placed_of text.now call.now)).events) }
     ensures fault { result ≡ Err Stop.WriteFault → Rose (K.faults sink.old) (K.faults sink.new) }
     ensures later { K.faults sink.old ≤ K.faults sink.new }
 {
-    match server.answer(CLOCK, text, nth, call, numbers) {
+    let number = asking.first + nth;
+    let numbers = Numbers {
+        request: asking.numbers.request,
+        reply: asking.numbers.reply.saturating_add(messages),
+    };
+    let plan = plans.at(asking.connection, number);
+    match server.answer(asking.now, text, nth, call, numbers, plan) {
         Err(_) => Err(Stop::Memory),
-        Ok(reply) => {
-            reporter.write_entry(sink, c, number, call.bucket, CLOCK, reply.as_slice())?;
-            reporter.write_message(sink, c, reply.as_slice())
+        Ok(served) => {
+            let sent = write_served(
+                reporter,
+                sink,
+                asking.connection,
+                number,
+                call.bucket,
+                &served,
+            )?;
+            Ok(Answered {
+                messages: messages + sent as u64,
+                state: served.state,
+            })
         }
     }
 }
 
-/// Answers all calls of a request, numbered from `first` on; how many messages were sent. `numbers` are
-/// those of the request and of its first reply.
+/// Whether a traversal ended otherwise than it should.
+fn is_stopped(state: State) -> bool
+    ensures { result ≡ is_stopped state }
+{
+    match state {
+        State::Finished => false,
+        State::Went | State::Refused | State::Aborted(_) => true,
+    }
+}
+
+/// Answers the calls of a request, up to the first whose traversal does not finish, and writes what
+/// happens.
 fn answer_calls<S: Service, K: Sink>(
     server: &mut S,
     reporter: Reporter,
-    c: u32,
-    first: u64,
+    asking: Asking,
+    plans: &Plans,
     text: &[u8],
     request: &Request,
-    numbers: Numbers,
     sink: &mut K,
-) -> Result<u64, Stop>
+) -> Result<Answered, Stop>
     requires reading { IsReading (S.limits server.old) text.now request.now }
     requires some { 0 < length text.now }
-    requires few { first + length text.now < 2 ^ 64 }
-    ensures server { OnOk result (server.new ≡ (answers_by S.answering c first server.old (calls_at text.now request.now)).0) }
-    ensures messages { IfOk result (λ count. count ≡ length (messages_of (entries_of (answers_by S.answering c first server.old (calls_at text.now request.now)).1))) }
-    ensures few { IfOk result (λ count. count ≤ length (calls_at text.now request.now)) }
+    requires few { asking.first + length text.now < 2 ^ 64 }
+    ensures server { OnOk result (server.new ≡ (answers_by S.answering (asking_of asking text.now plans.now) 0 0 server.old (calls_at text.now request.now)).server) }
+    ensures answered { IfOk result (λ answered. IsAnswered answered (answers_by S.answering (asking_of asking text.now plans.now) 0 0 server.old (calls_at text.now request.now))) }
+    ensures few { IfOk result (λ answered. answered.messages ≤ length (calls_at text.now request.now)) }
     ensures limits { S.limits server.new ≡ S.limits server.old }
-    ensures all { OnOk result (K.written sink.new ≡ append_known (K.written sink.old) (events_text reporter.history (answers_by S.answering c first server.old (calls_at text.now request.now)).1)) }
-    ensures part { WrotePart (K.written sink.old) (K.written sink.new) (events_text reporter.history (answers_by S.answering c first server.old (calls_at text.now request.now)).1) }
+    ensures all { OnOk result (K.written sink.new ≡ append_known (K.written sink.old) (events_text reporter.history (answers_by S.answering (asking_of asking text.now plans.now) 0 0 server.old (calls_at text.now request.now)).events)) }
+    ensures part { WrotePart (K.written sink.old) (K.written sink.new) (events_text reporter.history (answers_by S.answering (asking_of asking text.now plans.now) 0 0 server.old (calls_at text.now request.now)).events) }
     ensures fault { result ≡ Err Stop.WriteFault → Rose (K.faults sink.old) (K.faults sink.new) }
     ensures later { K.faults sink.old ≤ K.faults sink.new }
 {
-    let mut messages = 0;
+    let mut answered = Answered {
+        messages: 0,
+        state: State::Finished,
+    };
     let mut cursor = request.cursor(text);
     for nth in 0..request.calls() {
         if let Some(call) = cursor.next(request, text) {
-            let here = Numbers {
-                request: numbers.request,
-                reply: numbers.reply.saturating_add(messages),
-            };
-            let sent = answer_call(
+            answered = answer_call(
                 server,
                 reporter,
-                c,
-                first + nth,
+                asking,
+                plans,
                 text,
                 nth,
+                answered.messages,
                 &call,
-                here,
                 sink,
             )?;
-            messages += sent as u64;
+            if is_stopped(answered.state) {
+                return Ok(answered);
+            }
         }
     }
-    Ok(messages)
+    Ok(answered)
 }
 
-/// The connection takes a request, which stands in the first `size` bytes that wait there: all its
-/// calls are answered.
+/// The connection takes a request, which stands in the first `size` bytes that wait there: its calls
+/// are answered, at this time. Whether a traversal was aborted.
 fn take_request<S: Service, K: Sink>(
     server: &mut S,
     connection: &mut Connection,
     reporter: Reporter,
+    plans: &Plans,
+    now: u64,
     c: u32,
     size: usize,
     request: &Request,
     sink: &mut K,
-) -> Result<(), Stop>
+) -> Result<bool, Stop>
     requires { IsNextOf (S.limits server.old) connection.old size request.now }
-    ensures server { OnOk result (server.new ≡ (answers_to S.answering c server.old connection.old size request.now).0) }
-    ensures connection { OnOk result (connection.new ≡ seat_behind S.answering c server.old connection.old size request.now) }
+    ensures server { OnOk result (server.new ≡ (answers_to S.answering now plans.now c server.old connection.old size request.now).server) }
+    ensures connection { OnOk result (connection.new ≡ seat_behind S.answering now plans.now c server.old connection.old size request.now) }
+    ensures aborted { IfOk result (λ aborted. aborted ≡ is_abort (answers_to S.answering now plans.now c server.old connection.old size request.now).state) }
     ensures limits { S.limits server.new ≡ S.limits server.old }
-    ensures all { OnOk result (K.written sink.new ≡ append_known (K.written sink.old) (events_text reporter.history (events_to S.answering c server.old connection.old size request.now))) }
-    ensures part { WrotePart (K.written sink.old) (K.written sink.new) (events_text reporter.history (events_to S.answering c server.old connection.old size request.now)) }
+    ensures all { OnOk result (K.written sink.new ≡ append_known (K.written sink.old) (events_text reporter.history (events_to S.answering now plans.now c server.old connection.old size request.now))) }
+    ensures part { WrotePart (K.written sink.old) (K.written sink.new) (events_text reporter.history (events_to S.answering now plans.now c server.old connection.old size request.now)) }
     ensures fault { result ≡ Err Stop.WriteFault → Rose (K.faults sink.old) (K.faults sink.new) }
     ensures later { K.faults sink.old ≤ K.faults sink.new }
 {
     let text = &connection.waiting()[..size];
-    let first = connection.entered();
-    let numbers = Numbers {
-        request: connection.requests(),
-        reply: connection.sent(),
+    let asking = Asking {
+        now,
+        connection: c,
+        first: connection.entered(),
+        numbers: Numbers {
+            request: connection.requests(),
+            reply: connection.sent(),
+        },
     };
-    let messages = answer_calls(server, reporter, c, first, text, request, numbers, sink)?;
-    let closes = request.ends_connection();
-    reporter.write_closed(sink, c, closes)?;
-    connection.took(size, request.calls(), messages, closes);
-    Ok(())
+    let answered = answer_calls(server, reporter, asking, plans, text, request, sink)?;
+    match answered.state {
+        State::Finished => {
+            let closes = request.ends_connection();
+            reporter.write_closed(sink, c, closes)?;
+            connection.took(size, request.calls(), answered.messages, closes);
+            Ok(false)
+        }
+        State::Went | State::Refused => {
+            connection.stop(answered.messages);
+            Ok(false)
+        }
+        State::Aborted(_) => {
+            connection.stop(answered.messages);
+            Ok(true)
+        }
+    }
 }
 
 fn feed_at(connections: &mut Vec<Connection>, c: usize, bytes: &[u8]) -> Result<(), Memory>
@@ -190,17 +323,20 @@ fn next_request(connection: &Connection, limits: &Limits) -> Option<(usize, Requ
 
 #[tactic(auto, unfolding(crate::specs::State::led_by))]
 impl<S: Service> World<S> {
-    /// A world with this server and no connection.
-    pub fn new(alloc: Global, geometry: Geometry, server: S) -> World<S>
+    /// A world with this server and no connection, the clock at 0, and these planned faults.
+    pub fn new(alloc: Global, geometry: Geometry, server: S, plans: Plans) -> World<S>
         requires geometry { IsValid geometry }
         requires limits { S.limits server ≡ limits_of geometry }
-        ensures { result ≡ record { geometry = geometry; server = server; seats = [] } }
+        ensures { result ≡ record { geometry = geometry; server = server; seats = []; clock = 0; plans = plans; aborted = false } }
     {
         World {
             alloc,
             geometry,
             server,
             connections: Vec::new(alloc),
+            clock: 0,
+            plans,
+            aborted: false,
         }
     }
 
@@ -208,6 +344,13 @@ impl<S: Service> World<S> {
         ensures { result.now ≡ self.now.seats }
     {
         self.connections.as_slice()
+    }
+
+    /// Whether a traversal was aborted.
+    pub fn is_aborted(&self) -> bool
+        ensures { result ≡ self.now.aborted }
+    {
+        self.aborted
     }
 
     fn limits(&self) -> Limits
@@ -221,7 +364,7 @@ impl<S: Service> World<S> {
     }
 
     fn connect(&mut self) -> Result<(), Memory>
-        ensures { OnOk result (self.new ≡ (led_by S.answering self.old (ScriptLine.Open 0)).state) }
+        ensures { OnOk result (self.new ≡ (led_by (step_by S.answering) self.old (ScriptLine.Open 0)).state) }
     {
         self.connections.push(Connection::new(self.alloc))?;
         Ok(())
@@ -229,12 +372,13 @@ impl<S: Service> World<S> {
 
     fn feed(&mut self, c: u32, bytes: &[u8]) -> Result<(), Memory>
         requires { c < length self.old.seats }
-        ensures { OnOk result (self.new ≡ (led_by S.answering self.old (ScriptLine.Say c bytes.now)).state) }
+        ensures { OnOk result (self.new ≡ (led_by (step_by S.answering) self.old (ScriptLine.Say c bytes.now)).state) }
     {
         feed_at(&mut self.connections, c as usize, bytes)
     }
 
-    /// One step of a connection: its first whole request is answered. Whether there was one.
+    /// One step of a connection: its first whole request is answered. Whether there was one. Behind an
+    /// abort nothing happens.
     fn step<K: Sink>(&mut self, reporter: Reporter, c: u32, sink: &mut K) -> Result<bool, Stop>
         requires { c < length self.old.seats }
         ensures state { IfOk result (λ went. Becomes self.new went (step_by S.answering self.old c)) }
@@ -243,6 +387,9 @@ impl<S: Service> World<S> {
         ensures fault { result ≡ Err Stop.WriteFault → Rose (K.faults sink.old) (K.faults sink.new) }
         ensures later { K.faults sink.old ≤ K.faults sink.new }
     {
+        if self.aborted {
+            return Ok(false);
+        }
         let limits = self.limits();
         match next_request(&self.connections[c as usize], &limits) {
             None => Ok(false),
@@ -250,13 +397,18 @@ impl<S: Service> World<S> {
                 &mut self.server,
                 &mut self.connections[c as usize],
                 reporter,
+                &self.plans,
+                self.clock,
                 c,
                 size,
                 &request,
                 sink,
             ) {
                 Err(stop) => Err(stop),
-                Ok(()) => Ok(true),
+                Ok(aborted) => {
+                    self.aborted = aborted;
+                    Ok(true)
+                }
             },
         }
     }
@@ -264,9 +416,9 @@ impl<S: Service> World<S> {
     /// One step of each connection. Whether one of them answered a request.
     fn round<K: Sink>(&mut self, reporter: Reporter, sink: &mut K) -> Result<bool, Stop>
         requires { length self.old.seats < 2 ^ 32 }
-        ensures state { IfOk result (λ went. Becomes self.new went (round_by S.answering self.old)) }
-        ensures all { OnOk result (K.written sink.new ≡ append_known (K.written sink.old) (events_text reporter.history (round_by S.answering self.old).events)) }
-        ensures part { WrotePart (K.written sink.old) (K.written sink.new) (events_text reporter.history (round_by S.answering self.old).events) }
+        ensures state { IfOk result (λ went. Becomes self.new went (round_by (step_by S.answering) self.old)) }
+        ensures all { OnOk result (K.written sink.new ≡ append_known (K.written sink.old) (events_text reporter.history (round_by (step_by S.answering) self.old).events)) }
+        ensures part { WrotePart (K.written sink.old) (K.written sink.new) (events_text reporter.history (round_by (step_by S.answering) self.old).events) }
         ensures fault { result ≡ Err Stop.WriteFault → Rose (K.faults sink.old) (K.faults sink.new) }
         ensures later { K.faults sink.old ≤ K.faults sink.new }
     {
@@ -282,9 +434,9 @@ impl<S: Service> World<S> {
     /// Rounds up to the first in which no connection answers a request.
     fn drain<K: Sink>(&mut self, reporter: Reporter, sink: &mut K) -> Result<(), Stop>
         requires { length self.old.seats < 2 ^ 32 }
-        ensures state { OnOk result (self.new ≡ (led_by S.answering self.old ScriptLine.Drain).state) }
-        ensures all { OnOk result (K.written sink.new ≡ append_known (K.written sink.old) (line_text_by S.answering reporter.history self.old ScriptLine.Drain)) }
-        ensures part { WrotePart (K.written sink.old) (K.written sink.new) (line_text_by S.answering reporter.history self.old ScriptLine.Drain) }
+        ensures state { OnOk result (self.new ≡ (led_by (step_by S.answering) self.old ScriptLine.Drain).state) }
+        ensures all { OnOk result (K.written sink.new ≡ append_known (K.written sink.old) (line_text_by (step_by S.answering) reporter.history self.old ScriptLine.Drain)) }
+        ensures part { WrotePart (K.written sink.old) (K.written sink.new) (line_text_by (step_by S.answering) reporter.history self.old ScriptLine.Drain) }
         ensures fault { result ≡ Err Stop.WriteFault → Rose (K.faults sink.old) (K.faults sink.new) }
         ensures later { K.faults sink.old ≤ K.faults sink.new }
     {
@@ -304,9 +456,9 @@ impl<S: Service> World<S> {
     ) -> Result<(), Stop>
         requires few { length self.old.seats < 2 ^ 32 }
         requires known { IsKnown (length self.old.seats) line.now }
-        ensures state { OnOk result (self.new ≡ (led_by S.answering self.old line.now).state) }
-        ensures all { OnOk result (K.written sink.new ≡ append_known (K.written sink.old) (line_text_by S.answering reporter.history self.old line.now)) }
-        ensures part { WrotePart (K.written sink.old) (K.written sink.new) (line_text_by S.answering reporter.history self.old line.now) }
+        ensures state { OnOk result (self.new ≡ (led_by (step_by S.answering) self.old line.now).state) }
+        ensures all { OnOk result (K.written sink.new ≡ append_known (K.written sink.old) (line_text_by (step_by S.answering) reporter.history self.old line.now)) }
+        ensures part { WrotePart (K.written sink.old) (K.written sink.new) (line_text_by (step_by S.answering) reporter.history self.old line.now) }
         ensures fault { result ≡ Err Stop.WriteFault → Rose (K.faults sink.old) (K.faults sink.new) }
         ensures later { K.faults sink.old ≤ K.faults sink.new }
     {
@@ -316,11 +468,18 @@ impl<S: Service> World<S> {
                 Err(_) => Err(Stop::Memory),
                 Ok(()) => Ok(()),
             },
-            ScriptLine::Say { c, bytes } => match self.feed(*c, bytes.bytes()) {
-                Err(_) => Err(Stop::Memory),
-                Ok(()) => Ok(()),
-            },
+            ScriptLine::Say { c, bytes } | ScriptLine::Hex { c, bytes } => {
+                match self.feed(*c, bytes.bytes()) {
+                    Err(_) => Err(Stop::Memory),
+                    Ok(()) => Ok(()),
+                }
+            }
             ScriptLine::Drain => self.drain(reporter, sink),
+            ScriptLine::Clock { now } => {
+                self.clock = *now;
+                Ok(())
+            }
+            ScriptLine::Fault { .. } => Ok(()),
         }
     }
 }

@@ -1,35 +1,27 @@
-use Rattle.std.proofs.Common.{◌≡◌, ◌∙◌}
-use Rattle.std.proofs.lemmas.Result.{on_ok_weaker}
+use Rattle.std.proofs.Common.{◌≡◌, ◌+◌, ◌∙◌, ap, sym, subst, List, ℕ}
+use Rattle.sei_outside.specs.Bytes.{WrotePart}
 use Rattle.sei_outside.proofs.Parts.{wrote_nothing}
 use Rattle.mc_model.specs.Views.{placed_of}
-use Rattle.sei_main.specs.State.{clock_answer, entry_for}
-use Rattle.sei_main.proofs.CallTexts.{entry_part, message_part, call_all}
+use Rattle.sei_main.specs.Answering.{asked}
+use Rattle.sei_main.specs.Becomes.{asking_of}
+use Rattle.sei_main.specs.Report.{served_text}
+use Rattle.sei_main.specs.Serving.{asked_in, numbers_behind}
+use Rattle.sei_main.proofs.CallTexts.{served_line}
 use Rattle.sei_main.proofs.world.state.answer_call.Goals as goal
 
 pub returns-in-Err-clause-part : goal.returns-in-Err-clause-part
 returns-in-Err-clause-part g c = wrote_nothing _ _
 
-pub returns-in_err-write_entry-in-Ok-clause-part : goal.returns-in_err-write_entry-in-Ok-clause-part
-returns-in_err-write_entry-in-Ok-clause-part g c =
-    let placed = placed_of c.args.text.now c.args.call.now in
-    let reply = (g.S.Service.answering c.args.server.now clock_answer placed).1 in
-    let is : c.as_slice.result.now ≡ reply = c.as_slice.ensures.value ∙ c.in-Ok.ensures.reply in
-    entry_part c.args.reporter.history (entry_for c.args.c c.args.number placed reply) c.as_slice.result.now _ _ is c.write_entry.ensures.part
-
-pub returns-in_ok-write_entry-in-Ok-clause-all : goal.returns-in_ok-write_entry-in-Ok-clause-all
-returns-in_ok-write_entry-in-Ok-clause-all g c =
-    let placed = placed_of c.args.text.now c.args.call.now in
-    let reply = (g.S.Service.answering c.args.server.now clock_answer placed).1 in
-    let is : c.as_slice.result.now ≡ reply = c.as_slice.ensures.value ∙ c.in-Ok.ensures.reply in
-    let again : c.as_slice-in-Ok.result.now ≡ reply = c.as_slice-in-Ok.ensures.value ∙ c.in-Ok.ensures.reply in
-    on_ok_weaker c.write_message.result
-    (λ e. call_all c.args.reporter.history (entry_for c.args.c c.args.number placed reply) c.as_slice.result.now c.as_slice-in-Ok.result.now _ _ _ is again c.in_ok-write_entry-in-Ok.ensures.all e)
-    c.write_message.ensures.all
-
-pub returns-in_ok-write_entry-in-Ok-clause-part : goal.returns-in_ok-write_entry-in-Ok-clause-part
-returns-in_ok-write_entry-in-Ok-clause-part g c =
-    let placed = placed_of c.args.text.now c.args.call.now in
-    let reply = (g.S.Service.answering c.args.server.now clock_answer placed).1 in
-    let is : c.as_slice.result.now ≡ reply = c.as_slice.ensures.value ∙ c.in-Ok.ensures.reply in
-    let again : c.as_slice-in-Ok.result.now ≡ reply = c.as_slice-in-Ok.ensures.value ∙ c.in-Ok.ensures.reply in
-    message_part c.args.reporter.history (entry_for c.args.c c.args.number placed reply) c.as_slice.result.now c.as_slice-in-Ok.result.now _ _ _ is again c.in_ok-write_entry-in-Ok.ensures.all c.write_message.ensures.part
+pub returns-in_ok-sent-in-Ok-clause-part : goal.returns-in_ok-sent-in-Ok-clause-part
+returns-in_ok-sent-in-Ok-clause-part g c =
+    let p = placed_of c.args.text.now c.args.call.now in
+    let a = c.args.asking in
+    let number = a.first + c.args.nth in
+    let q = asked_in (asking_of a c.args.text.now c.args.plans.now) c.args.nth c.args.messages p in
+    let is : c.in-Ok.served ≡ (g.S.Service.answering c.args.server.now q).1 =
+    c.in-Ok.ensures.served
+    ∙ ap (λ (r : ℕ). (g.S.Service.answering c.args.server.now (asked a.now c.args.text.now c.args.nth p (record { request = a.numbers.request; reply = r }) c.at-plan.result)).1) c.saturating_add.ensures
+    ∙ ap (λ plan. (g.S.Service.answering c.args.server.now (asked a.now c.args.text.now c.args.nth p (numbers_behind a.numbers c.args.messages) plan)).1) c.at-plan.ensures in
+    subst (λ (t : List ℕ). WrotePart (g.K.Sink.written c.args.sink.now) (g.K.Sink.written c.write_served.new.sink) t)
+    (ap (served_text c.args.reporter.history a.connection number c.args.call.now.bucket) is ∙ sym (served_line c.args.reporter.history a.connection number p (g.S.Service.answering c.args.server.now q).1))
+    c.write_served.ensures.part

@@ -1,0 +1,194 @@
+-- All steps of the traversal of a call under a planned fault.
+use Rattle.std.proofs.Common.{◌≡◌, inl, ℕ, zero, suc, ◌+◌, ◌^◌, ◌<◌, ◌≤◌, List, Option, refl, sym, ap, ◌∙◌, subst, arith}
+use Rattle.mc_model.specs.declared.geometry.Geometry.{Geometry}
+use Rattle.mc_model.specs.Call.{Placed}
+use Rattle.mc_model.specs.Packed.{AreBytes}
+use Rattle.mc_model.specs.Server.{IsValid, Server}
+use Rattle.sei_fault.specs.declared.plan.Planned.{Planned}
+use Rattle.sei_fault.specs.Script.{ScriptState, script_answer, script_next, script_counts}
+use Rattle.sei_fault.specs.Scripted.{scripted}
+use Rattle.sei_words.specs.Loan.{words_of, bucket_of}
+use Rattle.sei_words.specs.Words.{BucketWords}
+use Rattle.sei_pass.specs.declared.given.Sealed.{Sealed}
+use Rattle.sei_pass.specs.State.{IsPass, new_pass}
+use Rattle.sei_traverse.specs.declared.turned.State.{State}
+use Rattle.sei_traverse.specs.declared.turned.State.TheVariants.{Went, Finished, Refused, Aborted}
+use Rattle.sei_traverse.specs.declared.turned.Want.{Want}
+use Rattle.sei_traverse.specs.declared.turned.Want.TheVariants.{Nothing, Take, Enter, Give, Send}
+use Rattle.sei_traverse.specs.Bounds.{most_steps, StepsWithin, StepsAfter}
+use Rattle.sei_traverse.specs.Service.{given_of}
+use Rattle.sei_traverse.specs.State.{IsTraversal, begun_walk, one_more}
+use Rattle.sei_traverse.specs.Step.{Turn, turn_tree}
+use Rattle.sei_traverse.specs.Walks.{IsWalk}
+use Rattle.sei_traverse.proofs.FactsLaws.{facts_begin}
+use Rattle.sei_traverse.proofs.StepsBound.{steps_bounded, begun_within}
+use Rattle.sei_main.specs.Course.{Course, loan_in, course_on, course_if, course_from, course_begun, course_of, served_behind}
+use Rattle.sei_main.specs.Errands.{service_for}
+use Rattle.sei_main.specs.Tables.{AreServer}
+use Rattle.sei_main.proofs.CourseShape.{Shape, shape_on, tables, errand_at}
+use Rattle.sei_main.proofs.CourseShape.Shape.{Before}
+use Rattle.sei_main.proofs.CourseStep.{traversal, none_asked, NotesNow, kept, step, kept, notes_now, stays_within}
+use Rattle.sei_main.proofs.HandsTrusted.{IsSealedCall}
+use Rattle.sei_main.proofs.ScriptedRuns.{one_falls, unplanned, unplanned_stays}
+use Rattle.sei_main.proofs.TableLaws.{IsGood}
+
+one_more_is : (n : ℕ) → suc n < 2 ^ 64 → one_more n ≡ suc n
+one_more_is n small = omega (arith, small)
+
+-- a traversal that has ended makes no step
+still_ended : (g : Geometry) (text : List ℕ) (now n : ℕ) (c : Course) → (c.served.state ≡ Went → ⊥) → course_from g text now n c ≡ c
+still_ended g text now zero c h = refl
+still_ended g text now (suc n) c h = ap (course_from g text now n) (still c.served.state h) ∙ still_ended g text now n c h
+  where
+    still : (state : State) → (state ≡ Went → ⊥) → course_if g text now state c ≡ c
+    still Went h = absurd (h refl)
+    still Finished h = refl
+    still Refused h = refl
+    still (Aborted abort) h = refl
+
+-- Without a plan.
+
+module _ (g : Geometry) (text : List ℕ) (now : ℕ) where
+  unplanned_on : (c : Course) (asked : ℕ) → c.core ≡ unplanned asked → (n : ℕ) × ((course_on g text now c).core ≡ unplanned n)
+  unfolding course_on
+  unplanned_on c asked e =
+      let tree = turn_tree (given_of (service_for g) text g (bucket_of (loan_in c.buckets c.lent))) now now c.walk (words_of (loan_in c.buckets c.lent)) in
+      let rest = unplanned_stays tree asked in
+      (rest.0, ap (λ (s : ScriptState). (scripted script_answer script_next tree s).1) e ∙ rest.1)
+
+  -- the core never has one
+  pub unplanned_from : (m : ℕ) (c : Course) (asked : ℕ) → c.core ≡ unplanned asked → (n : ℕ) × ((course_from g text now m c).core ≡ unplanned n)
+  unplanned_from zero c asked e = (asked, e)
+  unplanned_from (suc m) c asked e = by_state (λ d a h. unplanned_from m d a h) c.served.state
+    where
+      by_state : ((d : Course) (a : ℕ) → d.core ≡ unplanned a → (n : ℕ) × ((course_from g text now m d).core ≡ unplanned n)) → (state : State) → (n : ℕ) × ((course_from g text now m (course_if g text now state c)).core ≡ unplanned n)
+      by_state rest Went = let one = unplanned_on c asked e in rest (course_on g text now c) one.0 one.1
+      by_state rest Finished = rest c asked e
+      by_state rest Refused = rest c asked e
+      by_state rest (Aborted abort) = rest c asked e
+
+-- a walk that begins is laid out
+begun_pass : (g : Geometry) → IsValid g → IsPass (new_pass g)
+begun_pass g valid = record { valid = valid; registers = refl; input = refl; output = refl; bytes = refl; made = omega arith; fits = omega arith; bytes_fit = omega arith }
+
+begun_laid_out : (g : Geometry) (sealed : Sealed) → IsValid g → IsWalk (begun_walk g sealed)
+begun_laid_out g sealed valid = record {
+  first = begun_pass g valid;
+  second = begun_pass g valid;
+  same = refl;
+  first_log = omega arith;
+  second_log = omega arith;
+  first_room = refl;
+  second_room = refl;
+  wire_room = refl;
+}
+
+module _ (g : Geometry) (text : List ℕ) (now : ℕ) (buckets : List BucketWords) (s : Server) (sealed : Sealed) (p : Placed)
+    (valid : IsValid g) (bytes : AreBytes text) (small : now < 2 ^ 64) (good : IsGood g p) (is_call : IsSealedCall g text sealed p) (are : AreServer (tables g text now buckets s sealed p) s) where
+  -- what is known of a course behind so many steps
+  pub record OnCourse (c : Course) (steps : ℕ) : Type 0 where
+    pub shape : Shape g text now buckets s sealed p c steps
+    pub notes : NotesNow now c.walk.notes.now
+    pub rooms : IsTraversal (traversal g c.walk steps)
+    pub within : StepsAfter (traversal g c.walk steps) none_asked (script_counts c.core) c.served.state
+
+  notes_on : (c : Course) → NotesNow now c.walk.notes.now → NotesNow now (course_on g text now c).walk.notes.now
+  unfolding course_on
+  notes_on c h = notes_now g text now c.walk (loan_in c.buckets c.lent) c.core h
+
+  rooms_on : (c : Course) (steps more : ℕ) → IsTraversal (traversal g c.walk steps) → IsTraversal (traversal g (course_on g text now c).walk more)
+  unfolding course_on
+  rooms_on c steps more is =
+      let k = kept g text now c.walk (loan_in c.buckets c.lent) c.core in
+      record { walk = k.walk is.walk is.geometry; geometry = k.geometry ∙ is.geometry }
+
+  within_on : (c : Course) (steps : ℕ) → IsTraversal (traversal g c.walk steps) → StepsWithin (traversal g c.walk steps) none_asked (script_counts c.core) →
+      StepsAfter (traversal g (course_on g text now c).walk (one_more steps)) none_asked (script_counts (course_on g text now c).core) (course_on g text now c).served.state
+  unfolding course_on
+  within_on c steps is within = by (step g text now c.walk (loan_in c.buckets c.lent) c.core) (step g text now c.walk (loan_in c.buckets c.lent) c.core).0.walk.want
+      (stays_within g text now c.walk (loan_in c.buckets c.lent) c.core none_asked steps is within)
+    where
+      by : (x : Turn × ScriptState) (want : Want) → StepsAfter (traversal g x.0.walk (one_more steps)) none_asked (script_counts x.1) x.0.state →
+          StepsAfter (traversal g x.0.walk (one_more steps)) none_asked (script_counts x.1) (served_behind want x.0.walk c.served x.0.state).state
+      by x Nothing h = h
+      by x (Take b) h = h
+      by x Enter h = h
+      by x Give h = h
+      by x Send h = h
+
+  on_course : (c : Course) (steps : ℕ) → suc steps < 2 ^ 64 → c.served.state ≡ Went → OnCourse c steps → OnCourse (course_on g text now c) (suc steps)
+  on_course c steps few went h = subst (OnCourse (course_on g text now c)) (one_more_is steps few) (record {
+    shape = shape_on g text now buckets s sealed p valid bytes small good is_call are c steps went h.notes h.shape;
+    notes = notes_on c h.notes;
+    rooms = rooms_on c steps (one_more steps) h.rooms;
+    within = within_on c steps h.rooms (subst (StepsAfter (traversal g c.walk steps) none_asked (script_counts c.core)) went h.within);
+  })
+
+  -- behind m steps more: where it still goes on, so many were made
+  record Behind (m : ℕ) (c : Course) (steps : ℕ) : Type 0 where
+    made : ℕ
+    on : OnCourse (course_from g text now m c) made
+    all : (course_from g text now m c).served.state ≡ Went → made ≡ steps + m
+
+  -- one of them
+  one_on : (m : ℕ) (c : Course) (steps : ℕ) → steps + suc m < 2 ^ 64 → OnCourse c steps → ((d : Course) (n : ℕ) → n + m < 2 ^ 64 → OnCourse d n → Behind m d n) → Behind (suc m) c steps
+  one_on m c steps few h rest = by_state c.served.state refl
+    where
+      ended : (c.served.state ≡ Went → ⊥) → Behind (suc m) c steps
+      ended not = record {
+        made = steps;
+        on = subst (λ (d : Course). OnCourse d steps) (sym (still_ended g text now (suc m) c not)) h;
+        all = λ went. absurd (not (sym (ap (λ (d : Course). d.served.state) (still_ended g text now (suc m) c not)) ∙ went));
+      }
+
+      goes : c.served.state ≡ Went → Behind (suc m) c steps
+      goes went =
+          let b = rest (course_on g text now c) (suc steps) (omega (arith, few)) (on_course c steps (omega (arith, few)) went h) in
+          let same : course_from g text now m (course_on g text now c) ≡ course_from g text now (suc m) c = ap (λ (o : State). course_from g text now m (course_if g text now o c)) (sym went) in
+          record {
+            made = b.made;
+            on = subst (λ (d : Course). OnCourse d b.made) same b.on;
+            all = λ more. let so : b.made ≡ suc steps + m = b.all (ap (λ (d : Course). d.served.state) same ∙ more) in omega (arith, so);
+          }
+
+      by_state : (state : State) → c.served.state ≡ state → Behind (suc m) c steps
+      by_state Went e = goes e
+      by_state Finished e = ended (λ went. let clash : ⊥ = cc in clash)
+      by_state Refused e = ended (λ went. let clash : ⊥ = cc in clash)
+      by_state (Aborted abort) e = ended (λ went. let clash : ⊥ = cc in clash)
+
+  all_on : (m : ℕ) (c : Course) (steps : ℕ) → steps + m < 2 ^ 64 → OnCourse c steps → Behind m c steps
+  all_on zero c steps few h = record { made = steps; on = h; all = λ went. omega arith }
+  all_on (suc m) c steps few h = one_on m c steps few h (λ d n less on. all_on m d n less on)
+
+  begins : (plan : Option Planned) → OnCourse (course_begun g buckets sealed plan) 0
+  begins plan = record {
+    shape = Before (record {
+      gate = omega arith;
+      untouched = record { lent = refl; same = refl; entered = refl; message = refl };
+      lends = λ went right. refl;
+      known = λ k lt. facts_begin (errand_at g text now buckets s sealed p k) none_asked;
+    });
+    notes = inl refl;
+    rooms = record { walk = begun_laid_out g sealed valid; geometry = refl };
+    within = begun_within g sealed none_asked;
+  }
+
+  few_steps : 0 + (most_steps g + 1) < 2 ^ 64
+  few_steps = omega (arith, valid.few_slots, valid.few_words)
+
+  whole : (plan : Option Planned) → Behind (most_steps g + 1) (course_begun g buckets sealed plan) 0
+  whole plan = all_on (most_steps g + 1) (course_begun g buckets sealed plan) 0 few_steps (begins plan)
+
+  -- it is known of the whole course
+  pub whole_course : (plan : Option Planned) → (made : ℕ) × OnCourse (course_of g text now buckets sealed plan) made
+  whole_course plan = ((whole plan).made, (whole plan).on)
+
+  -- it ends
+  pub course_ends : (plan : Option Planned) → (course_of g text now buckets sealed plan).served.state ≡ Went → ⊥
+  course_ends plan went =
+      let b = whole plan in
+      let c : Course = course_of g text now buckets sealed plan in
+      let within : StepsWithin (traversal g c.walk b.made) none_asked (script_counts c.core) = subst (StepsAfter (traversal g c.walk b.made) none_asked (script_counts c.core)) went b.on.within in
+      let bound : b.made ≤ most_steps g = steps_bounded (traversal g c.walk b.made) none_asked (script_counts c.core) b.on.rooms within (omega (arith, one_falls c.core.stage)) in
+      omega (arith, bound, b.all went)

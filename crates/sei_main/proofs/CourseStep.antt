@@ -1,0 +1,107 @@
+-- One step of the traversal of a call under a planned fault: what is known of it is known behind it.
+use Rattle.std.proofs.Common.{◌≡◌, ◌⊎◌, inr, ℕ, List, [], ◌∷◌, length, true, Option, Some, None, refl, sym, ap, ◌∙◌, subst, arith}
+use Rattle.mc_model.specs.declared.geometry.Geometry.{Geometry}
+use Rattle.sei_code.specs.Coded.{sealed as seal}
+use Rattle.sei_code.specs.declared.coded.Coded.{Coded}
+use Rattle.sei_fault.specs.Counts.{Counts}
+use Rattle.sei_fault.specs.Question.{Question, Answer}
+use Rattle.sei_fault.specs.Script.{ScriptState, script_begin, script_answer, script_next, script_counts}
+use Rattle.sei_fault.specs.ScriptLaw.{script_lawful}
+use Rattle.sei_fault.specs.Scripted.{function_core}
+use Rattle.sei_fault.proofs.Runs.{always}
+use Rattle.sei_words.specs.Loan.{words_of, bucket_of, place_of}
+use Rattle.sei_words.specs.Words.{BucketWords}
+use Rattle.sei_traverse.specs.declared.walk.Walk.{Walk}
+use Rattle.sei_traverse.specs.Bounds.{StepsWithin, StepsAfter}
+use Rattle.sei_traverse.specs.Errand.{Errand}
+use Rattle.sei_traverse.specs.Facts.{Facts, LendsWanted, Isolates}
+use Rattle.sei_traverse.specs.Noting.{NotesTime}
+use Rattle.sei_traverse.specs.Noting.NotesTime.{Same, Noted}
+use Rattle.sei_traverse.specs.OnWay.{lent_words, TellsAs}
+use Rattle.sei_traverse.specs.Service.{Given, given_of}
+use Rattle.sei_traverse.specs.State.{TraversalState, IsTraversal, one_more}
+use Rattle.sei_traverse.specs.Step.{Turn, turn, turn_tree, TimedTwice}
+use Rattle.sei_traverse.specs.Trusted.{IsTrusted}
+use Rattle.sei_traverse.proofs.Isolated.{isolates_one}
+use Rattle.sei_traverse.proofs.NotingLaws.{notes_time}
+use Rattle.sei_traverse.proofs.StepsBound.{steps_after_turned}
+use Rattle.sei_main.specs.Course.{turned}
+use Rattle.sei_main.specs.Errands.{service_for}
+use Rattle.sei_main.proofs.ScriptedRuns.{runs_scripted, one_falls}
+use Rattle.sei_main.proofs.WalkKept.{KeepsWalk, turn_kept}
+
+-- the traversal on this walk, behind so many steps
+abbrev pub traversal : Geometry → Walk → ℕ → TraversalState
+traversal g w steps = record { walk = w; geometry = g; steps = steps; running = true }
+
+-- no question was asked, and no strike fell
+abbrev pub none_asked : Counts
+none_asked = script_counts (script_begin None)
+
+-- what is left of a loan
+abbrev pub left_in : Option BucketWords → List ℕ → Option BucketWords
+left_in None words = None
+left_in (Some b) words = Some (record b { words = words })
+
+pub left_place : (loan : Option BucketWords) (words : List ℕ) → place_of (left_in loan words) ≡ place_of loan
+left_place None words = refl
+left_place (Some b) words = refl
+
+none_long : (words : List ℕ) → length words ≡ 0 → [] ≡ words
+none_long [] e = refl
+none_long (x ∷ xs) e = absurd (omega (arith, e))
+
+-- its words, where they are as many as those that were lent
+pub left_words : (loan : Option BucketWords) (words : List ℕ) → length words ≡ length (words_of loan) → words_of (left_in loan words) ≡ words
+left_words None words e = none_long words e
+left_words (Some b) words e = refl
+
+-- the clock of an errand of that time tells the same
+tells : (now : ℕ) (o : Option ℕ) → o ≡ Some now → TellsAs o (Some now)
+tells now None e = absurd cc
+tells now (Some time) e = sym e
+
+-- the noted time is that of the call, where one is noted
+abbrev pub NotesNow : ℕ → Option Coded → Type 0
+NotesNow now note = (note ≡ None) ⊎ (note ≡ Some (seal now))
+
+notes_on : (now : ℕ) (before after : Option Coded) → NotesNow now before → NotesTime (Some now) before after → NotesNow now after
+notes_on now before after h (Same e) = subst (NotesNow now) (sym e) h
+notes_on now before after h (Noted time is e) = inr (e ∙ ap (λ (t : ℕ). let o : Option Coded = Some (seal t) in o) is)
+
+module _ (g : Geometry) (text : List ℕ) (now : ℕ) (w : Walk) (loan : Option BucketWords) (core : ScriptState) where
+  abbrev gives : ScriptState → (q : Question) → Answer q → ScriptState → Type 0
+  gives = function_core script_answer script_next
+
+  abbrev given : Given
+  given = given_of (service_for g) text g (bucket_of loan)
+
+  -- how it turns out
+  abbrev pub step : Turn × ScriptState
+  step = turned g text now w loan core
+
+  runs : TimedTwice gives (Some now) (λ now later. turn_tree given now later w (words_of loan)) core step.1 (turn step.0.walk step.0.words step.0.state)
+  runs = record { now = now; later = now; answer = refl; answer_later = refl; runs = runs_scripted script_answer script_next (turn_tree given now now w (words_of loan)) core }
+
+  -- the walk keeps its layout, and the words their number
+  pub kept : KeepsWalk g w (words_of loan) step.0.walk step.0.words
+  unfolding runs
+  kept = always gives (λ (y : Turn). KeepsWalk g w (words_of loan) y.walk y.words) (turn_tree given now now w (words_of loan)) core step.1 step.0 (turn_kept g w (words_of loan) given refl now now) runs.runs
+
+  -- no other time is noted
+  pub notes_now : NotesNow now w.notes.now → NotesNow now step.0.walk.notes.now
+  notes_now h = notes_on now w.notes.now step.0.walk.notes.now h (notes_time (Some now) gives given w step.0.walk (words_of loan) step.0.words step.0.state core step.1 runs)
+
+  -- the number of steps stays bounded
+  pub stays_within : (begin : Counts) (steps : ℕ) → IsTraversal (traversal g w steps) → StepsWithin (traversal g w steps) begin (script_counts core) →
+      StepsAfter (traversal g step.0.walk (one_more steps)) begin (script_counts step.1) step.0.state
+  stays_within begin steps is within =
+      steps_after_turned gives script_counts script_lawful (Some now) given (words_of loan) step.0.words begin (traversal g w steps) (traversal g step.0.walk (one_more steps)) step.0.state core step.1 runs is refl refl within
+
+  -- one strike is isolated
+  pub isolates : (e : Errand) (steps : ℕ) → IsTrusted e → e.service ≡ service_for g → e.input ≡ text → e.clock ≡ Some now → LendsWanted w loan → Facts e (traversal g w steps) (lent_words loan) none_asked (script_counts core) →
+      Isolates e (traversal g w steps) (traversal g step.0.walk (one_more steps)) loan (left_in loan step.0.words) none_asked (script_counts step.1) step.0.walk.want step.0.state
+  isolates e steps trusted service input clock lends facts =
+      isolates_one gives script_counts script_lawful (Some now) e none_asked (traversal g w steps) (traversal g step.0.walk (one_more steps)) loan (left_in loan step.0.words) step.0.state core step.1 (service_for g) text service input
+      (subst (λ (ws : List ℕ). TimedTwice gives (Some now) (λ now later. turn_tree given now later w (words_of loan)) core step.1 (turn step.0.walk ws step.0.state)) (sym (left_words loan step.0.words kept.long)) runs)
+      (left_place loan step.0.words) refl refl kept.sealed trusted (tells now e.clock clock) lends facts (omega (arith, one_falls step.1.stage))

@@ -1,9 +1,0 @@
-use Rattle.std.proofs.Common.{arith}
-use Rattle.sei_main.proofs.EscapeLaws.{unescaped-escaped}
-use Rattle.sei_main.proofs.script.escapes.escape.Goals as goal
-
-pub returns-in_err-escape_byte-clause-readable : goal.returns-in_err-escape_byte-clause-readable
-returns-in_err-escape_byte-clause-readable c = unescaped-escaped c.args.bytes.now (λ k. omega (arith, c.type_inv.bytes k))
-
-pub returns-clause-readable : goal.returns-clause-readable
-returns-clause-readable c = unescaped-escaped c.args.bytes.now (λ k. omega (arith, c.type_inv.bytes k))

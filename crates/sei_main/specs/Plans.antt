@@ -1,0 +1,36 @@
+-- The planned faults of a script, by their traversals.
+use Rattle.std.specs.Prelude.{ℕ, List, [], ◌∷◌, Option}
+use Rattle.std.specs.Ordering.{nat_cmp, ordering_then}
+use Rattle.std.specs.declared.cmp.Ordering.{Ordering}
+use Rattle.std.specs.BTreeMap.{insert_entry, is_at}
+use Rattle.std.specs.Map.{lookup}
+use Rattle.sei_fault.specs.declared.plan.Planned.{Planned}
+use Rattle.sei_script.specs.declared.line.ScriptLine.{ScriptLine}
+use Rattle.sei_script.specs.declared.line.ScriptLine.TheVariants.{Geometry, Open, Say, Hex, Drain, Clock, Fault}
+use Rattle.sei_main.specs.declared.plans.CallNumber.{CallNumber}
+
+-- in the order of the connections, and then of the numbers there
+abbrev pub number_cmp : CallNumber → CallNumber → Ordering
+number_cmp a b = ordering_then (nat_cmp a.connection b.connection) (nat_cmp a.number b.number)
+
+-- the plans, with that of a line
+abbrev pub plans_with : List (CallNumber × Planned) → ScriptLine → List (CallNumber × Planned)
+plans_with plans (Geometry g) = plans
+plans_with plans (Open c) = plans
+plans_with plans (Say c bytes) = plans
+plans_with plans (Hex c bytes) = plans
+plans_with plans Drain = plans
+plans_with plans (Clock now) = plans
+plans_with plans (Fault c t plan) = insert_entry number_cmp plans (record { connection = c; number = t }) plan
+
+abbrev pub plans_from : List (CallNumber × Planned) → List ScriptLine → List (CallNumber × Planned)
+plans_from plans [] = plans
+plans_from plans (line ∷ lines) = plans_from (plans_with plans line) lines
+
+-- the plans of a script, wherever its fault lines stand
+abbrev pub plans_of : List ScriptLine → List (CallNumber × Planned)
+plans_of script = plans_from [] script
+
+-- the plan for traversal t of connection c, if there is one
+abbrev pub plan_at : List (CallNumber × Planned) → ℕ → ℕ → Option Planned
+plan_at plans c t = lookup (is_at (number_cmp (record { connection = c; number = t }))) plans

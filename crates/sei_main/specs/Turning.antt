@@ -1,0 +1,41 @@
+-- One step of a traversal on the buckets of a server, as the code makes it.
+use Rattle.std.specs.Prelude.{◌≡◌, ℕ, List, Option, Some}
+use Rattle.mc_model.specs.declared.geometry.Geometry.{Geometry}
+use Rattle.sei_fault.specs.Counts.{Counts}
+use Rattle.sei_fault.specs.Script.{ScriptState, script_answer, script_next, script_counts}
+use Rattle.sei_fault.specs.Scripted.{function_core}
+use Rattle.sei_words.specs.Loan.{words_of, bucket_of, place_of}
+use Rattle.sei_words.specs.Words.{BucketWords}
+use Rattle.sei_traverse.specs.declared.turned.Turned.{Turned}
+use Rattle.sei_traverse.specs.Bounds.{StepsWithin, StepsAfter}
+use Rattle.sei_traverse.specs.Service.{given_of}
+use Rattle.sei_traverse.specs.Step.{turn, turn_tree, TimedTwice}
+use Rattle.sei_traverse.specs.State.{TraversalState, IsTraversal, one_more, goes_on}
+use Rattle.sei_main.specs.Errands.{service_for}
+use Rattle.sei_main.specs.Course.{loan_in, put_back, turned}
+
+-- a step on what is lent is that of the definition, whatever the core answers
+pub record IsStep (g : Geometry) (text : List ℕ) (now : ℕ) (before after : Option BucketWords) (old new : TraversalState) (core later : ScriptState) (t : Turned) : Type 0 where
+  pub turned : TimedTwice (function_core script_answer script_next) (Some now) (λ now later. turn_tree (given_of (service_for g) text old.geometry (bucket_of before)) now later old.walk (words_of before)) core later
+      (turn new.walk (words_of after) t.state)
+  pub place : place_of after ≡ place_of before
+  pub want : t.want ≡ new.walk.want
+  pub sealed : new.walk.sealed ≡ old.walk.sealed
+  pub geometry : new.geometry ≡ old.geometry
+  pub steps : new.steps ≡ one_more old.steps
+  pub running : new.running ≡ goes_on t.state
+  pub rooms : IsTraversal new
+  pub within : (begin : Counts) → StepsWithin old begin (script_counts core) → StepsAfter new begin (script_counts later) t.state
+
+-- and so is one on the buckets
+pub record IsTurn (g : Geometry) (text : List ℕ) (now : ℕ) (lent : Option ℕ) (old new : TraversalState) (before after : List BucketWords) (core later : ScriptState) (t : Turned) : Type 0 where
+  pub words : List ℕ
+  pub is : turned g text now old.walk (loan_in before lent) core ≡ (record { walk = new.walk; words = words; state = t.state }, later)
+  pub buckets : after ≡ put_back before lent (loan_in before lent) words
+  pub want : t.want ≡ new.walk.want
+  pub sealed : new.walk.sealed ≡ old.walk.sealed
+  pub geometry : new.geometry ≡ old.geometry
+  pub steps : new.steps ≡ one_more old.steps
+  pub running : new.running ≡ goes_on t.state
+  pub rooms : IsTraversal new
+  pub within : (begin : Counts) → StepsWithin old begin (script_counts core) → StepsAfter new begin (script_counts later) t.state

@@ -1,0 +1,10 @@
+pub mod Capped
+pub mod Cuts
+pub mod EscapeLaws
+pub mod UnescapeLaws
+pub mod FaultLaws
+pub mod HexLaws
+pub mod CappedWords
+pub mod Fit
+pub mod SaysLaws
+pub mod Limits

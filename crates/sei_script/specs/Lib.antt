@@ -1,0 +1,15 @@
+pub mod Limits
+pub mod Numbers
+pub mod Escapes
+pub mod Unescapes
+pub mod Lines
+pub mod Hexadecimal
+pub mod Plans
+pub mod Context
+pub mod Says
+pub mod Faults
+pub mod Fit
+pub mod SaysBytes
+pub mod Reading
+pub mod ReportLines
+pub mod AbortLines
