@@ -5,7 +5,8 @@ usage: fault_table.py PROGRAM
 
 PROGRAM is the proved program (crates/sei_main/out/sei_main). Two scripts are run in one bucket of one
 slot: a `set` on the empty bucket, and a `get` behind a `set`. For each phase and each kind of fault a
-plan is made for every index of the phase, and the reports are counted:
+plan is made for every step that the traversal makes there, and the reports are counted. Reads are those
+of the first three values of a step, masks are 1, and jumps lead to the first step of each phase:
 
     right    the report is that of the script without a fault: the plan did not strike, or what it did
              was right all the same
@@ -23,15 +24,13 @@ SET = "set a 0 0 1\\r\\nx\\r\\n"
 GET = "get a\\r\\n"
 PHASES = ["guard", "take", "first", "restore", "second", "compare", "verify", "enter", "give", "send", "done"]
 KINDS = [
-    ("read 0", "read 0 1"),
-    ("read 1", "read 1 1"),
-    ("read 2", "read 2 1"),
-    ("write", "write 1"),
-    ("flip", "flip"),
-    ("skip", "skip"),
-    ("repeat", "repeat"),
+    ("read", [f"read {nth} 1" for nth in range(3)]),
+    ("write", ["write 1"]),
+    ("flip", ["flip"]),
+    ("skip", ["skip"]),
+    ("repeat", ["repeat"]),
+    ("jump", [f"jump {phase} 0" for phase in PHASES]),
 ]
-JUMPS = [(f"jump {phase}", f"jump {phase} 0") for phase in PHASES]
 
 
 def replay(program, text):
@@ -76,21 +75,25 @@ def steps(program, said, traversal, phase):
 
 
 def table(program, title, said, traversal):
-    print(f"\n{title}\n")
+    """Prints the table of one script, and answers whether a message of it was wrong."""
     quiet = replay(program, script(said, None))
     wrong = False
-    print("| phase | steps | fault | what came of it |")
-    print("|---|---|---|---|")
+    print(f"\n{title}\n")
+    print("| phase, steps | " + " | ".join(name for name, _ in KINDS) + " |")
+    print("|---" * (len(KINDS) + 1) + "|")
     for phase in PHASES:
         indices = steps(program, said, traversal, phase)
-        for name, kind in KINDS + JUMPS:
+        cells = []
+        for _, faults in KINDS:
             ends = Counter()
             for index in indices:
-                fault = f"fault 0 {traversal} {phase} at {index} {kind}"
-                ends[outcome(quiet, replay(program, script(said, fault)))] += 1
+                for kind in faults:
+                    fault = f"fault 0 {traversal} {phase} at {index} {kind}"
+                    ends[outcome(quiet, replay(program, script(said, fault)))] += 1
             wrong = wrong or "WRONG" in ends
-            text = ", ".join(f"{count} {end}" for end, count in sorted(ends.items(), key=lambda e: (e[0] != "right", e[0])))
-            print(f"| {phase} | {len(indices)} | {name} | {text} |")
+            ordered = sorted(ends.items(), key=lambda end: (end[0] != "right", end[0]))
+            cells.append(", ".join(f"{end} {count}" for end, count in ordered))
+        print(f"| {phase}, {len(indices)} | " + " | ".join(cells) + " |")
     return wrong
 
 
