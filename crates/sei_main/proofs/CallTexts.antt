@@ -1,9 +1,9 @@
 -- The lines of an answered call.
-use Rattle.std.proofs.Common.{◌≡◌, ℕ, Bool, true, false, List, [], ◌∷◌, ◌++◌, refl, ap, sym, ◌∙◌, subst, Option, Some, None}
+use Rattle.std.proofs.Common.{◌≡◌, ℕ, Bool, true, false, List, [], ◌∷◌, ◌++◌, refl, ap, ◌∙◌, Option, Some, None}
 use Rattle.std.specs.Io.KnownBytes.{append_known}
 use Rattle.std.proofs.lemmas.List.{append-nil}
 use Rattle.sei_outside.specs.Bytes.{WrotePart}
-use Rattle.sei_outside.proofs.Parts.{wrote_both, wrote_first, wrote_last, wrote_part}
+use Rattle.sei_outside.proofs.Parts.{wrote_both, wrote_last, wrote_part}
 use Rattle.mc_model.specs.Call.{Placed}
 use Rattle.sei_traverse.specs.declared.turned.State.{State}
 use Rattle.sei_traverse.specs.declared.turned.State.TheVariants.{Went, Finished, Refused, Aborted}
@@ -23,21 +23,21 @@ sent_line : (h : Bool) (c : ℕ) (message : List ℕ) → events_text h (sent_ev
 sent_line h c [] = refl
 sent_line h c (b ∷ bs) = append-nil _
 
-ended_line : (h : Bool) (c n : ℕ) (state : State) → events_text h (ended_events c n state) ≡ ended_text c n state
-ended_line h c n Went = refl
-ended_line h c n Finished = refl
-ended_line h c n Refused = append-nil (refused_text c)
-ended_line h c n (Aborted abort) = append-nil _
+ended_line : (h : Bool) (c n : ℕ) (state : State) (strikes : ℕ) → events_text h (ended_events c n state strikes) ≡ ended_text c n state
+ended_line h c n Went strikes = refl
+ended_line h c n Finished strikes = refl
+ended_line h c n Refused strikes = append-nil (refused_text c)
+ended_line h c n (Aborted abort) strikes = append-nil _
 
 -- what is written of a call are the lines of its events
-pub served_line : (h : Bool) (c n : ℕ) (p : Placed) (s : Served) → events_text h (served_events c n p s) ≡ served_text h c n p.bucket s
-served_line h c n p s =
-    events_append h (entered_events c n p s.entered) (sent_events c s.message ++ ended_events c n s.state)
-    ∙ ap (λ (t : List ℕ). t ++ events_text h (sent_events c s.message ++ ended_events c n s.state)) (entered_line h c n p s.entered)
+pub served_line : (h : Bool) (c n : ℕ) (p : Placed) (s : Served) (strikes : ℕ) → events_text h (served_events c n p s strikes) ≡ served_text h c n p.bucket s
+served_line h c n p s strikes =
+    events_append h (entered_events c n p s.entered) (sent_events c s.message ++ ended_events c n s.state strikes)
+    ∙ ap (λ (t : List ℕ). t ++ events_text h (sent_events c s.message ++ ended_events c n s.state strikes)) (entered_line h c n p s.entered)
     ∙ ap (λ (t : List ℕ). entered_text h c n p.bucket s.entered ++ t)
-    (events_append h (sent_events c s.message) (ended_events c n s.state)
-    ∙ ap (λ (t : List ℕ). t ++ events_text h (ended_events c n s.state)) (sent_line h c s.message)
-    ∙ ap (λ (t : List ℕ). message_text c s.message ++ t) (ended_line h c n s.state))
+    (events_append h (sent_events c s.message) (ended_events c n s.state strikes)
+    ∙ ap (λ (t : List ℕ). t ++ events_text h (ended_events c n s.state strikes)) (sent_line h c s.message)
+    ∙ ap (λ (t : List ℕ). message_text c s.message ++ t) (ended_line h c n s.state strikes))
 
 closed_line : (h : Bool) (c : ℕ) (closes : Bool) → events_text h (closed_events c closes) ≡ closing_line_text c closes
 closed_line h c true = append-nil (closed_text c)

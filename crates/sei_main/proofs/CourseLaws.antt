@@ -232,13 +232,3 @@ module _ (g : Geometry) (valid : IsValid g) (text : List ℕ) (bytes : AreBytes 
       by_plan : (o : Option Planned) → plan ≡ o → (q : Planned) × (plan ≡ Some q)
       by_plan None e = absurd (never_struck e struck)
       by_plan (Some q) e = (q, e)
-
-  -- without one it finishes
-  pub unplanned_finishes : plan ≡ None → c.served.state ≡ Finished
-  unplanned_finishes none = by_state c.served.state refl
-    where
-      by_state : (state : State) → c.served.state ≡ state → c.served.state ≡ Finished
-      by_state Went e = absurd (ended e)
-      by_state Finished e = e
-      by_state Refused e = absurd (never_struck none (refuses_struck e).struck)
-      by_state (Aborted abort) e = absurd (never_struck none (aborts_struck abort e))

@@ -1,9 +1,9 @@
--- What an Ok says of the run, from what it says of the input alone.
+-- What a status says of the run, from what it says of the input alone.
 use Rattle.std.proofs.Common.{◌≡◌, ℕ, Bool, true, false, List, refl, ap, sym, subst, Option, Some, None}
 use Rattle.std.specs.Prelude.{IfSome}
 use Rattle.sei_script.specs.declared.line.ScriptLine.{ScriptLine}
 use Rattle.sei_script.specs.Reading.{Reading, Reads, Fails}
-use Rattle.sei_main.specs.Answers.{Answered, OnScript, OnInput, IsDecided, RanTo, end_status, reading_in}
+use Rattle.sei_main.specs.Answers.{Answered, OnScript, OnInput, HasRun, IsDecided, RanTo, end_status, is_aborted, reading_in}
 use Rattle.sei_main.specs.declared.status.Status.{Status}
 use Rattle.sei_main.specs.declared.status.Status.TheVariants.{Ok, Usage, Script, Aborted, ReadFault, WriteFault, Memory, NetFault, JournalFull, JournalFault}
 use Rattle.sei_main.proofs.Laws.{IsRunnable}
@@ -13,21 +13,34 @@ on_script : (r : Reading) (P Q : List ScriptLine → Type 0) → ((script : List
 on_script (Reads script) P Q law h = law script refl h
 on_script (Fails line why) P Q law h = absurd h
 
--- a law of scripts that read and were run to their end, with an abort or without one
-abbrev pub IsLaw : Bool → (List ScriptLine → Type 0) → Type 0
-IsLaw aborted P = (script : List ScriptLine) → IsRunnable script → RanTo aborted script → P script
+-- a law of scripts that read and were run to their end
+abbrev pub IsLaw : (List ScriptLine → Type 0) → Type 0
+IsLaw P = (script : List ScriptLine) → IsRunnable script → P script
 
-of_script : (aborted : Bool) (P : List ScriptLine → Type 0) → IsLaw aborted P → (input : List ℕ) → OnScript (reading_in input) (RanTo aborted) → OnScript (reading_in input) P
-of_script aborted P law input h = on_script (reading_in input) P (RanTo aborted) (λ script e ran. law script (reads_runnable input script e) ran) h
+of_script : (aborted : Bool) (P : List ScriptLine → Type 0) → ((script : List ScriptLine) → IsRunnable script → is_aborted script ≡ aborted → P script) → (input : List ℕ) → OnScript (reading_in input) (RanTo aborted)
+    → OnScript (reading_in input) P
+of_script aborted P law input h = on_script (reading_in input) P (RanTo aborted) (λ script e ran. law script (reads_runnable input script e ran.0) ran.1) h
 
--- holds of the script that an Ok has read
-pub law_of : (P : List ScriptLine → Type 0) → IsLaw false P → (h : Bool) (left old new : Option (List ℕ)) (status : Status)
-    → IfSome left (λ input. Answered h (reading_in input) old new status) → status ≡ Ok → OnInput left P
-law_of P law h None old new status a e = tt
-law_of P law h (Some input) old new status a e = of_script false P law input (subst (λ (s : Status). Answered h (reading_in input) old new s) e a).0
+by_status : (P : List ScriptLine → Type 0) → IsLaw P → (h : Bool) (input : List ℕ) (old new : Option (List ℕ)) (status : Status) → Answered h (reading_in input) old new status → HasRun status → OnScript (reading_in input) P
+by_status P law h input old new Ok a ran = of_script false P (λ script r aborted. law script r) input a.0
+by_status P law h input old new Aborted a ran = of_script true P (λ script r aborted. law script r) input a.0
+by_status P law h input old new Usage a ran = absurd ran
+by_status P law h input old new (Script line why) a ran = absurd ran
+by_status P law h input old new ReadFault a ran = absurd ran
+by_status P law h input old new WriteFault a ran = absurd ran
+by_status P law h input old new Memory a ran = absurd ran
+by_status P law h input old new NetFault a ran = absurd ran
+by_status P law h input old new JournalFull a ran = absurd ran
+by_status P law h input old new JournalFault a ran = absurd ran
+
+-- holds of the script that was run, with an abort or without one
+pub law_of : (P : List ScriptLine → Type 0) → IsLaw P → (h : Bool) (left old new : Option (List ℕ)) (status : Status)
+    → IfSome left (λ input. Answered h (reading_in input) old new status) → HasRun status → OnInput left P
+law_of P law h None old new status a ran = tt
+law_of P law h (Some input) old new status a ran = by_status P law h input old new status a ran
 
 -- and of the script that an Aborted has read
-pub law_of_aborted : (P : List ScriptLine → Type 0) → IsLaw true P → (h : Bool) (left old new : Option (List ℕ)) (status : Status)
+pub law_of_aborted : (P : List ScriptLine → Type 0) → ((script : List ScriptLine) → IsRunnable script → is_aborted script ≡ true → P script) → (h : Bool) (left old new : Option (List ℕ)) (status : Status)
     → IfSome left (λ input. Answered h (reading_in input) old new status) → status ≡ Aborted → OnInput left P
 law_of_aborted P law h None old new status a e = tt
 law_of_aborted P law h (Some input) old new status a e = of_script true P law input (subst (λ (s : Status). Answered h (reading_in input) old new s) e a).0

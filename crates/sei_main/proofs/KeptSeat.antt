@@ -44,7 +44,7 @@ empty_kept l = record {
 }
 
 -- bytes were fed
-pub fed_kept : (l : Limits) (fed bytes : List ℕ) (own : List Entry) (sent : List (List ℕ)) (seat : Seat) → SeatKept l fed own sent seat → SeatKept l (fed ++ bytes) own sent (fed_more seat bytes)
+unfoldable pub fed_kept : (l : Limits) (fed bytes : List ℕ) (own : List Entry) (sent : List (List ℕ)) (seat : Seat) → SeatKept l fed own sent seat → SeatKept l (fed ++ bytes) own sent (fed_more seat bytes)
 fed_kept l fed bytes own sent seat h =
     let more : waiting seat ++ bytes ≡ waiting (fed_more seat bytes) = sym (drop-append-le seat.consumed seat.fed bytes h.within) in
     record {
@@ -60,7 +60,7 @@ fed_kept l fed bytes own sent seat h =
       within = omega (arith, h.within, length-append seat.fed bytes);
     }
 
-counted_append : (n : ℕ) (xs ys : List Entry) → AreCounted n xs → AreCounted (n + length xs) ys → AreCounted n (xs ++ ys)
+pub counted_append : (n : ℕ) (xs ys : List Entry) → AreCounted n xs → AreCounted (n + length xs) ys → AreCounted n (xs ++ ys)
 counted_append n [] ys h k = let e : n + 0 ≡ n = omega arith in subst (λ (m : ℕ). AreCounted m ys) e k
 counted_append n (x ∷ xs) ys h k =
     let e : n + length (x ∷ xs) ≡ n + 1 + length xs = omega arith in

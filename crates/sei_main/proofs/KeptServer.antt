@@ -1,6 +1,6 @@
 -- What the server keeps: its buckets are those that the history leads to.
-use Rattle.std.proofs.Common.{◌≡◌, ◌≢◌, ℕ, zero, suc, ◌<◌, Bool, true, false, List, [], ◌∷◌, ◌++◌, length, refl, ap, sym, ◌∙◌, subst, arith, ◌+◌}
-use Rattle.std.specs.Prelude.{if◌then◌else◌, ◌==◌, slice_set, slice_index_or, replicate, All}
+use Rattle.std.proofs.Common.{◌≡◌, ◌≢◌, ℕ, zero, suc, ◌<◌, Bool, true, false, List, [], ◌∷◌, ◌++◌, length, refl, ap, sym, ◌∙◌, subst, arith}
+use Rattle.std.specs.Prelude.{if◌then◌else◌, ◌==◌, slice_set, slice_index_or, replicate}
 use Rattle.std.proofs.lemmas.Bool.Decides.{nat_tests}
 use Rattle.std.proofs.lemmas.List.{append_assoc, append-nil, length-set, length-replicate, get_or-set_same, get_or-set_other}
 use Rattle.mc_model.specs.declared.geometry.Geometry.{Geometry}
@@ -10,9 +10,7 @@ use Rattle.mc_model.specs.Call.{Placed, IsPlaced}
 use Rattle.mc_model.specs.Answer.{answer}
 use Rattle.mc_model.specs.Server.{Server, room_of, empty_server, bucket_at, server_answer}
 use Rattle.sei_main.specs.History.{Entry, led_through, state_after, IsAnswered, IsLegalBehind, IsLegal}
-use Rattle.sei_main.specs.Events.{entries_of}
-use Rattle.sei_main.specs.State.{entry_for, answers}
-use Rattle.sei_main.proofs.Answering.{entries_answered}
+use Rattle.sei_main.specs.State.{entry_for}
 
 pub record ServerKept (g : Geometry) (server : Server) (history : List Entry) : Type 0 where
   pub room : server.room ≡ room_of g
@@ -79,15 +77,3 @@ answer_kept g server history time c n p s k =
       legal = legal_push g [] history entry k.legal (record { placed = s.placed; reply = reply });
       buckets = λ b h. bucket_by g server history p time c n b (p.bucket == b) refl h s.bucket k ∙ sym (led_push (room_of g) b empty_bucket history entry);
     }
-
--- and calls were
-pub answers_kept : (g : Geometry) (server : Server) (history : List Entry) (time c n : ℕ) (ps : List Placed) → All (StandsAt g.buckets) ps → ServerKept g server history
-    → ServerKept g (answers time c n server ps).0 (history ++ entries_of (answers time c n server ps).1)
-answers_kept g server history time c n [] s k = subst (λ (es : List Entry). ServerKept g server es) (sym (append-nil history)) k
-answers_kept g server history time c n (p ∷ ps) s k =
-    let a = server_answer server time p in
-    let entry = entry_for time c n p a.1 in
-    let rest = answers time c (n + 1) a.0 ps in
-    subst (λ (es : List Entry). ServerKept g rest.0 es)
-    (append_assoc history (entry ∷ []) (entries_of rest.1) ∙ ap (λ (es : List Entry). history ++ es) (sym (entries_answered entry rest.1)))
-    (answers_kept g a.0 (history ++ entry ∷ []) time c (n + 1) ps (λ i d h. s (suc i) d (omega (arith, h))) (answer_kept g server history time c n p (s 0 p (omega arith)) k))

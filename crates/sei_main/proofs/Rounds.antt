@@ -1,12 +1,9 @@
 -- Rounds take bytes, and fuel that is enough does not matter.
-use Rattle.std.proofs.Common.{◌≡◌, ℕ, zero, suc, ◌+◌, ◌<◌, ◌≤◌, ◌⊎◌, inl, inr, Bool, true, false, List, [], ◌∷◌, ◌++◌, length, refl, ap, sym, ◌∙◌, subst, arith, Option, Some, None}
+use Rattle.std.proofs.Common.{◌≡◌, ℕ, zero, suc, ◌+◌, ◌<◌, ◌≤◌, ◌⊎◌, inl, inr, Bool, true, false, List, [], ◌∷◌, ◌++◌, length, refl, ap, sym, ◌∙◌, subst, arith, Some, None}
 use Rattle.std.specs.Prelude.{slice_index_or, slice_set, if◌then◌else◌, ◌||◌}
 use Rattle.std.proofs.lemmas.List.{length-drop, length-set, length_push}
 use Rattle.mc_text.specs.declared.limits.Limits.{Limits}
-use Rattle.mc_model.specs.Call.{Placed}
-use Rattle.mc_text.specs.Meaning.{Meaning, calls_of, ends_connection}
-use Rattle.sei_main.specs.Own.{messages_of}
-use Rattle.sei_main.specs.Events.{Event, entries_of}
+use Rattle.mc_text.specs.Meaning.{Meaning}
 use Rattle.mc_text.specs.Front.{front}
 use Rattle.mc_text.proofs.StreamLaws.{front_length}
 use Rattle.sei_script.specs.declared.line.ScriptLine.{ScriptLine}

@@ -1,4 +1,4 @@
--- A server that answers as the plain server does, where no fault is planned, runs a quiet script as the plain server does.
+-- A server that isolates faults runs a script without any as the plain server does.
 use Rattle.std.proofs.Common.{◌≡◌, ℕ, zero, suc, ◌+◌, ◌<◌, ◌^◌, Bool, true, false, List, [], ◌∷◌, ◌++◌, length, refl, ap, sym, ◌∙◌, subst, arith, Option, Some, None}
 use Rattle.std.specs.Prelude.{if◌then◌else◌, ◌||◌, ◌&&◌, slice_set, slice_index_or, slice_get, take, All}
 use Rattle.std.specs.List.{list_all}
@@ -20,35 +20,19 @@ use Rattle.sei_main.specs.declared.plans.CallNumber.{CallNumber}
 use Rattle.sei_main.specs.declared.world.service.Served.{Served}
 use Rattle.sei_main.specs.Answering.{Asked, Answering, plain_served}
 use Rattle.sei_main.specs.Asked.{IsCallAt}
+use Rattle.sei_main.proofs.Outcomes.{IsAskedOf, AsksCalls, IsolatesFaults, IsAsThere, unplanned}
 use Rattle.sei_main.specs.Own.{message_of, messages_of}
 use Rattle.sei_main.specs.Events.{Event, Entered, entries_of}
 use Rattle.sei_main.specs.History.{Entry}
-use Rattle.sei_main.specs.Plans.{plans_from, plans_of}
+use Rattle.sei_main.specs.Plans.{plans_from}
 use Rattle.sei_main.specs.Quiet.{is_quiet, is_quiet_line}
 use Rattle.sei_main.specs.Seats.{Seat, empty_seat, waiting, fed_more, taken_more}
-use Rattle.sei_main.specs.State.{State, Told, Went, StateOf, ToldOf, WentOf, answers, takes_request, step_front, step, entry_for, entry_events, closed_events, limits_of, next_request, bytes_waiting, idle, behind, seat_at, fed, round_from_by, round_by, rounds_by, led_by}
+use Rattle.sei_main.specs.State.{State, Told, Went, StateOf, ToldOf, WentOf, answers, takes_request, step_front, step, entry_for, entry_events, limits_of, next_request, bytes_waiting, idle, behind, seat_at, fed, round_from_by, round_by, rounds_by, led_by}
 use Rattle.sei_main.specs.Serving.{Asking, AnswersOf, asking_at, asked_in, served_events, sent_events, seat_for, closing_events, is_abort, on_with, answer_in, answers_by, takes_request_by, step_front_by, step_by}
 use Rattle.sei_main.specs.Run.{start_of, after_by, run_from_by, run_by}
 use Rattle.sei_main.specs.Report.{events_text, seats_text, closing_text, report_of}
 use Rattle.sei_main.proofs.Answering.{entries_answered}
 use Rattle.sei_main.proofs.SeatBytes.{IsFedBytes, fed_at}
-
--- a call of a request in bytes
-pub record IsAskedOf (g : Geometry) (a : Asked) : Type 0 where
-  pub call : IsCallAt (limits_of g) a.text a.nth a.placed
-  pub bytes : All (λ b. b < 256) a.text
-  pub small : a.now < 2 ^ 64
-  pub quiet : a.plan ≡ None
-
--- a server, related to a plain one, serves each such call as the plain one does, and is related to it behind the call
-pub record ServesPlainly {S : Type 0} (answering : Answering S) (g : Geometry) (R : S → Server → Type 0) : Type 0 where
-  pub served : (s : S) (t : Server) (a : Asked) → IsAskedOf g a → R s t → (answering s a).1 ≡ plain_served a.now (server_answer t a.now a.placed).1
-  pub next : (s : S) (t : Server) (a : Asked) → IsAskedOf g a → R s t → R (answering s a).0 (server_answer t a.now a.placed).0
-
--- the calls of each request that may wait at a connection that was fed bytes are those of its text
-abbrev pub AsksCalls : Geometry → Type 0
-AsksCalls g = (seat : Seat) (size : ℕ) (m : Meaning) → All (λ b. b < 256) seat.fed → next_request (limits_of g) seat ≡ Some (size, m) →
-    All (λ b. b < 256) (take size (waiting seat)) × ((k : ℕ) (p : Placed) → slice_get (calls_of g.buckets m) k ≡ Some p → IsCallAt (limits_of g) (take size (waiting seat)) k p)
 
 -- worlds of one geometry with related servers, the same connections, which were fed bytes, and the same clock; no fault is planned
 pub record Alike {S : Type 0} (R : S → Server → Type 0) (g : Geometry) (s : StateOf S) (t : State) : Type 0 where
@@ -90,8 +74,8 @@ module _ {S : Type 0} (R : S → Server → Type 0) (g : Geometry) where
       }
 
 -- the events of a call that is served plainly
-plain_events : (now c n : ℕ) (p : Placed) (reply : List ℕ) → served_events c n p (plain_served now reply) ≡ entry_events (entry_for now c n p reply)
-plain_events now c n p reply = ap (λ (es : List Event). Entered (entry_for now c n p reply) ∷ es) (append-nil (sent_events c reply))
+pub plain_events : (now c n : ℕ) (p : Placed) (reply : List ℕ) (strikes : ℕ) → served_events c n p (plain_served now reply) strikes ≡ entry_events (entry_for now c n p reply)
+plain_events now c n p reply strikes = ap (λ (es : List Event). Entered (entry_for now c n p reply) ∷ es) (append-nil (sent_events c reply))
 
 -- calls that were answered alike
 pub record AnswersAlike {S : Type 0} (R : S → Server → Type 0) (messages : ℕ) (x : AnswersOf S) (y : Server × List Event) : Type 0 where
@@ -100,7 +84,7 @@ pub record AnswersAlike {S : Type 0} (R : S → Server → Type 0) (messages : �
   pub messages_are : x.messages ≡ messages + length (messages_of (entries_of y.1))
   pub finished : x.state ≡ Finished
 
-module _ {S : Type 0} (answering : Answering S) (g : Geometry) (R : S → Server → Type 0) (plainly : ServesPlainly answering g R) where
+module _ {S : Type 0} (answering : Answering S) (g : Geometry) (R : S → Server → Type 0) (isolates : IsolatesFaults answering g R) where
   answers_alike : (q : Asking) (nth messages number : ℕ) (s : S) (t : Server) (ps : List Placed) → q.now < 2 ^ 64 → q.plans ≡ [] → All (λ b. b < 256) q.text → number ≡ q.first + nth →
       ((k : ℕ) (p : Placed) → slice_get ps k ≡ Some p → IsCallAt (limits_of g) q.text (nth + k) p) → R s t →
       AnswersAlike R messages (answers_by answering q nth messages s ps) (answers q.now q.connection number t ps)
@@ -113,22 +97,24 @@ module _ {S : Type 0} (answering : Answering S) (g : Geometry) (R : S → Server
         call = subst (λ (k : ℕ). IsCallAt (limits_of g) q.text k p) first (calls 0 p refl);
         bytes = bytes;
         small = small;
-        quiet = ap (λ (plans : List (CallNumber × Planned)). (asked_in (record q { plans = plans }) nth messages p).plan) quiet;
       } in
+      let none : a.plan ≡ None = ap (λ (plans : List (CallNumber × Planned)). (asked_in (record q { plans = plans }) nth messages p).plan) quiet in
+      let there : IsAsThere R t a (answering s a) = unplanned R t a (answering s a) (isolates s t a is r) none in
       let reply : List ℕ = (server_answer t q.now p).1 in
       let here : AnswersOf S = answer_in answering q nth messages s p in
-      let served : (answering s a).1 ≡ plain_served q.now reply = plainly.served s t a is r in
+      let served : (answering s a).served ≡ plain_served q.now reply = there.same in
+      let strikes : ℕ = (answering s a).strikes in
       let happened : here.events ≡ entry_events (entry_for q.now q.connection number p reply) =
-      ap (served_events q.connection (q.first + nth) p) served ∙ plain_events q.now q.connection (q.first + nth) p reply ∙ ap (λ (m : ℕ). entry_events (entry_for q.now q.connection m p reply)) (sym n) in
+      ap (λ (x : Served). served_events q.connection (q.first + nth) p x strikes) served ∙ plain_events q.now q.connection (q.first + nth) p reply strikes ∙ ap (λ (m : ℕ). entry_events (entry_for q.now q.connection m p reply)) (sym n) in
       let rest = answers_alike q (nth + 1) here.messages (number + 1) here.server (server_answer t q.now p).0 ps small quiet bytes one
-      (λ k d e. let next : nth + suc k ≡ nth + 1 + k = omega arith in subst (λ (j : ℕ). IsCallAt (limits_of g) q.text j d) next (calls (suc k) d e)) (plainly.next s t a is r) in
+      (λ k d e. let next : nth + suc k ≡ nth + 1 + k = omega arith in subst (λ (j : ℕ). IsCallAt (limits_of g) q.text j d) next (calls (suc k) d e)) there.server in
       let later : AnswersOf S = answers_by answering q (nth + 1) here.messages here.server ps in
-      let there = answers q.now q.connection (number + 1) (server_answer t q.now p).0 ps in
+      let later_there = answers q.now q.connection (number + 1) (server_answer t q.now p).0 ps in
       let goes : here.state ≡ Finished = ap (λ (x : Served). x.state) served in
       let sent : here.messages ≡ messages + length (message_of reply) = ap (λ (x : Served). messages + length (message_of x.message)) served in
       let entry : Entry = entry_for q.now q.connection number p reply in
-      let count : length (messages_of (entries_of (entry_events entry ++ there.1))) ≡ length (message_of reply) + length (messages_of (entries_of there.1)) =
-      ap (λ (es : List Entry). length (messages_of es)) (entries_answered entry there.1) ∙ length-append (message_of reply) (messages_of (entries_of there.1)) in
+      let count : length (messages_of (entries_of (entry_events entry ++ later_there.1))) ≡ length (message_of reply) + length (messages_of (entries_of later_there.1)) =
+      ap (λ (es : List Entry). length (messages_of es)) (entries_answered entry later_there.1) ∙ length-append (message_of reply) (messages_of (entries_of later_there.1)) in
       subst (λ (x : EndState). AnswersAlike R messages (on_with here later x) (answers q.now q.connection number t (p ∷ ps))) (sym goes)
       (record {
         server = rest.server;
@@ -281,7 +267,7 @@ both : (a b : Bool) → (a && b) ≡ true → (a ≡ true) × (b ≡ true)
 both true b e = (refl, e)
 both false b e = cc
 
-plans_nothing : (script : List ScriptLine) → list_all is_quiet_line script ≡ true → plans_from [] script ≡ []
+pub plans_nothing : (script : List ScriptLine) → list_all is_quiet_line script ≡ true → plans_from [] script ≡ []
 plans_nothing [] e = refl
 plans_nothing (lines.Geometry g ∷ script) e = plans_nothing script (both true (list_all is_quiet_line script) e).1
 plans_nothing (lines.Open c ∷ script) e = plans_nothing script (both true (list_all is_quiet_line script) e).1
@@ -291,12 +277,12 @@ plans_nothing (lines.Drain ∷ script) e = plans_nothing script (both true (list
 plans_nothing (lines.Clock now ∷ script) e = plans_nothing script (both true (list_all is_quiet_line script) e).1
 plans_nothing (lines.Fault c t plan ∷ script) e = absurd (let z : ⊥ = cc in z)
 
-module _ {S : Type 0} (answering : Answering S) (R : S → Server → Type 0) (script : List ScriptLine) (plainly : ServesPlainly answering (geometry_of script) R) (says : All SaysBytes script) (asks : AsksCalls (geometry_of script))
+module _ {S : Type 0} (answering : Answering S) (R : S → Server → Type 0) (script : List ScriptLine) (isolates : IsolatesFaults answering (geometry_of script) R) (says : All SaysBytes script) (asks : AsksCalls (geometry_of script))
     (quiet : is_quiet script ≡ true) (s : S) (t : Server) (r : R s t) where
   -- the run of a quiet script that says bytes has the same events and leaves the same connections
   pub run_same : ToldAlike R (geometry_of script) (run_by (step_by answering) s script) (run_by step t script)
   run_same =
-      run_from_alike answering (geometry_of script) R plainly asks (start_of s script) (start_of t script) script says
+      run_from_alike answering (geometry_of script) R isolates asks (start_of s script) (start_of t script) script says
       (record {
         state = record {
           left = refl;

@@ -1,29 +1,29 @@
 -- The run of a quiet script on words is the run of the plain server.
-use Rattle.std.proofs.Common.{◌≡◌, ℕ, Bool, true, false, List, Some, refl, ap, sym, ◌∙◌, arith, subst, take}
-use Rattle.std.specs.Prelude.{All, slice_get}
+use Rattle.std.proofs.Common.{◌≡◌, Bool, true, false, List, Some, refl, sym, ◌∙◌, arith, subst}
+use Rattle.std.specs.Prelude.{All}
 use Rattle.mc_model.specs.declared.geometry.Geometry.{Geometry}
 use Rattle.mc_model.specs.Server.{IsValid, Server, empty_server}
-use Rattle.mc_text.specs.Meaning.{calls_of}
 use Rattle.sei_script.specs.declared.line.ScriptLine.{ScriptLine}
 use Rattle.sei_script.specs.Context.{geometry_of}
 use Rattle.sei_script.specs.SaysBytes.{SaysBytes}
 use Rattle.sei_main.specs.Answers.{is_aborted}
 use Rattle.sei_main.specs.Headline.{IsPlain}
 use Rattle.sei_main.specs.Quiet.{is_quiet}
-use Rattle.sei_main.specs.Seats.{waiting}
 use Rattle.sei_main.specs.State.{limits_of}
 use Rattle.sei_hand.specs.Requests.{limits_of as call_limits, call_in}
 use Rattle.sei_main.specs.Answering.{Asked}
+use Rattle.sei_main.specs.Run.{run_of, struck_run_of}
 use Rattle.sei_main.specs.Tables.{Tables, fresh_tables}
 use Rattle.sei_main.specs.TableAnswers.{table_answering}
 use Rattle.sei_main.proofs.SeatBytes.{next_text}
-use Rattle.sei_main.proofs.Simulated.{IsAskedOf, ServesPlainly, AsksCalls, run_same, report_same}
+use Rattle.sei_main.proofs.Outcomes.{IsAskedOf, AsksCalls, IsolatesFaults, Outcome}
+use Rattle.sei_main.proofs.Simulated.{run_same, report_same}
 use Rattle.sei_main.proofs.TableLaws.{AreServerOf, fresh_are_server}
 use Rattle.sei_main.proofs.TableCalls.{asked_of}
-use Rattle.sei_main.proofs.TableOutcomes.{IsAsThere, unplanned_as_there}
+use Rattle.sei_main.proofs.TableOutcomes.{outcome}
 
 -- the calls of each request that waits are those of its text
-asks_calls : (g : Geometry) → IsValid g → AsksCalls g
+pub asks_calls : (g : Geometry) → IsValid g → AsksCalls g
 asks_calls g valid seat size m fed e =
     let text = next_text (limits_of g) seat size m fed e in
     (text.1, λ k p f. record { some_buckets = omega (arith, valid.some_buckets); meaning = m; spelled = text.0; call = f })
@@ -32,32 +32,39 @@ asks_calls g valid seat size m fed e =
 there : (g : Geometry) → IsValid g → (s : Tables) (t : Server) (a : Asked) → IsAskedOf g a → AreServerOf g s t → call_in (call_limits s.geometry) a.text a.nth ≡ Some a.placed
 there g valid s t a asked r = (asked_of g s.geometry a.text a.nth a.placed (sym r.geometry) (subst IsValid (sym r.geometry) valid) asked.bytes asked.call).call
 
--- where no fault is planned, words serve a call as the plain server does
-pub tables_serve_plainly : (g : Geometry) → IsValid g → ServesPlainly table_answering g (AreServerOf g)
-tables_serve_plainly g valid = record {
-  served = λ s t a asked r. (as_there s t a asked r).same;
-  next = λ s t a asked r. record { geometry = r.geometry; are = (as_there s t a asked r).server };
-}
-  where
-    as_there : (s : Tables) (t : Server) (a : Asked) → (asked : IsAskedOf g a) (r : AreServerOf g s t) → IsAsThere s t r.are a asked.bytes asked.small (there g valid s t a asked r)
-    as_there s t a asked r = unplanned_as_there s t r.are a asked.bytes asked.small (there g valid s t a asked r) asked.quiet
+-- words have one of the outcomes for each call
+pub tables_isolate : (g : Geometry) → IsValid g → IsolatesFaults table_answering g (AreServerOf g)
+tables_isolate g valid s t a asked r =
+    subst (λ (y : Geometry). Outcome (AreServerOf y) t a (table_answering s a)) r.geometry (outcome s t r.are a asked.bytes asked.small (there g valid s t a asked r))
 
--- so the run is the same, and the report, with the history or without it
-pub plain_run : (history : Bool) (script : List ScriptLine) → IsValid (geometry_of script) → All SaysBytes script → is_quiet script ≡ true → IsPlain history script
-plain_run history script valid bytes quiet =
+-- the run of a quiet script has the same events as that of the plain server, and leaves the same connections
+pub record RunIsPlain (script : List ScriptLine) : Type 0 where
+  pub goes : (struck_run_of script).state.aborted ≡ false
+  pub geometry : (run_of script).state.geometry ≡ geometry_of script
+  pub seats : (struck_run_of script).state.seats ≡ (run_of script).state.seats
+  pub events : (struck_run_of script).events ≡ (run_of script).events
+
+pub run_is_plain : (script : List ScriptLine) → IsValid (geometry_of script) → All SaysBytes script → is_quiet script ≡ true → RunIsPlain script
+run_is_plain script valid says quiet =
     let g = geometry_of script in
-    let asks = asks_calls g valid in
-    let start = fresh_are_server g valid in
-    let same = run_same table_answering (AreServerOf g) script (tables_serve_plainly g valid) bytes asks quiet (fresh_tables g) (empty_server g) start in
+    let same = run_same table_answering (AreServerOf g) script (tables_isolate g valid) says (asks_calls g valid) quiet (fresh_tables g) (empty_server g) (fresh_are_server g valid) in
+    record { goes = same.state.goes; geometry = same.state.right; seats = same.state.seats; events = same.events }
+
+-- so the report is the same, with the history or without it
+pub plain_run : (history : Bool) (script : List ScriptLine) → IsValid (geometry_of script) → All SaysBytes script → is_quiet script ≡ true → IsPlain history script
+plain_run history script valid says quiet =
+    let g = geometry_of script in
+    let plain = run_is_plain script valid says quiet in
     record {
-      goes = same.state.goes;
-      report = report_same table_answering (AreServerOf g) script (tables_serve_plainly g valid) bytes asks quiet (fresh_tables g) (empty_server g) start history;
+      goes = plain.goes;
+      events = plain.events;
+      report = report_same table_answering (AreServerOf g) script (tables_isolate g valid) says (asks_calls g valid) quiet (fresh_tables g) (empty_server g) (fresh_are_server g valid) history;
     }
 
--- so a script whose run is aborted plans a fault
+-- and a script whose run is aborted plans a fault
 pub plans_fault : (script : List ScriptLine) → IsValid (geometry_of script) → All SaysBytes script → is_aborted script ≡ true → is_quiet script ≡ false
-plans_fault script valid bytes aborted = by (is_quiet script) refl
+plans_fault script valid says aborted = by (is_quiet script) refl
   where
     by : (quiet : Bool) → is_quiet script ≡ quiet → is_quiet script ≡ false
-    by true e = let z : false ≡ true = sym (plain_run true script valid bytes e).goes ∙ aborted in absurd (let w : ⊥ = cc in w)
+    by true e = let z : false ≡ true = sym (run_is_plain script valid says e).goes ∙ aborted in absurd (let w : ⊥ = cc in w)
     by false e = e

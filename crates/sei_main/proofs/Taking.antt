@@ -1,22 +1,20 @@
 -- A request is taken: the answers to its calls are written, and then that the connection closes.
-use Rattle.std.proofs.Common.{◌≡◌, ℕ, ◌<◌, ◌≤◌, Bool, true, false, List, ◌++◌, length, take, refl, ap, sym, ◌∙◌, subst, arith, Option}
+use Rattle.std.proofs.Common.{◌≡◌, ℕ, ◌<◌, ◌≤◌, Bool, false, List, ◌++◌, length, take, ap, sym, ◌∙◌, subst, arith, Option}
 use Rattle.std.specs.Io.KnownBytes.{append_known}
-use Rattle.std.proofs.lemmas.List.{length-take, append-nil}
+use Rattle.std.proofs.lemmas.List.{length-take}
 use Rattle.sei_outside.specs.Bytes.{WrotePart}
 use Rattle.sei_outside.proofs.Parts.{wrote_both, wrote_first, wrote_last}
 use Rattle.mc_text.specs.declared.request.Request.{Request}
 use Rattle.mc_text.specs.declared.limits.Limits.{Limits}
 use Rattle.mc_text.specs.Reading.{calls_at, meaning_at}
 use Rattle.sei_fault.specs.declared.plan.Planned.{Planned}
-use Rattle.sei_traverse.specs.declared.turned.State.{State}
 use Rattle.sei_traverse.specs.declared.turned.State.TheVariants.{Finished}
 use Rattle.sei_main.specs.declared.plans.CallNumber.{CallNumber}
 use Rattle.sei_main.specs.declared.world.state.Answered.{Answered}
 use Rattle.sei_main.specs.declared.world.state.Asking.{Asking as AskingOf}
 use Rattle.sei_main.specs.Answering.{Answering}
-use Rattle.sei_main.specs.Events.{Event}
 use Rattle.sei_main.specs.Seats.{Seat, waiting}
-use Rattle.sei_main.specs.Serving.{Asking, AnswersOf, asking_at, answers_by, closing_events}
+use Rattle.sei_main.specs.Serving.{AnswersOf, answers_by, closing_events}
 use Rattle.sei_main.specs.Becomes.{IsNextOf, IsAnswered, asking_of, answers_to, closes_behind, events_to}
 use Rattle.sei_script.specs.ReportLines.{closing_line_text}
 use Rattle.sei_main.specs.Report.{events_text}

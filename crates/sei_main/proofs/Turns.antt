@@ -1,5 +1,5 @@
 -- The traversal of a call, step by step, is that of the definition.
-use Rattle.std.proofs.Common.{◌≡◌, ℕ, zero, suc, ◌+◌, ◌-◌, ◌^◌, ◌<◌, ◌≤◌, Bool, true, false, List, [], ◌∷◌, length, Option, Some, None, refl, sym, ap, ◌∙◌, subst, arith}
+use Rattle.std.proofs.Common.{◌≡◌, ℕ, zero, suc, ◌+◌, ◌-◌, ◌^◌, ◌<◌, ◌≤◌, true, false, List, [], ◌∷◌, length, Option, Some, None, refl, sym, ap, ◌∙◌, subst, arith}
 use Rattle.std.specs.Prelude.{All, slice_get, slice_set}
 use Rattle.std.proofs.lemmas.List.Elements.{All-set}
 use Rattle.mc_model.specs.declared.geometry.Geometry.{Geometry}
@@ -7,7 +7,7 @@ use Rattle.sei_fault.specs.declared.plan.Planned.{Planned}
 use Rattle.sei_fault.specs.declared.script.Stage.{Stage}
 use Rattle.sei_fault.specs.declared.script.Stage.TheVariants as stage
 use Rattle.sei_fault.specs.Script.{ScriptState, script_begin, script_answer, script_next, script_counts, fallen}
-use Rattle.sei_fault.specs.Scripted.{function_core, scripted}
+use Rattle.sei_fault.specs.Scripted.{function_core}
 use Rattle.sei_fault.specs.Tree.{Runs}
 use Rattle.sei_fault.proofs.Scripted.{scripted_runs}
 use Rattle.sei_words.specs.Loan.{Place, place_of, words_of, bucket_of}
@@ -25,7 +25,7 @@ use Rattle.sei_traverse.specs.State.{TraversalState, IsTraversal, begun, one_mor
 use Rattle.sei_traverse.specs.Step.{Turn, turn, turn_tree, TimedTwice}
 use Rattle.sei_traverse.proofs.StepsBound.{steps_bounded, begun_within}
 use Rattle.sei_main.specs.declared.world.service.Served.{Served}
-use Rattle.sei_main.specs.Course.{Course, loan_in, put_back, lent_behind, served_behind, is_ended, unserved, turned, met, course_on, course_if, course_from, course_begun, course_of}
+use Rattle.sei_main.specs.Course.{Course, loan_in, put_back, lent_behind, served_behind, is_ended, unserved, turned, met, course_on, course_if, course_from, course_begun}
 use Rattle.sei_main.specs.Errands.{service_for}
 use Rattle.sei_main.specs.Tables.{IsOfGeometry}
 use Rattle.sei_main.specs.Turning.{IsStep, IsTurn}

@@ -18,9 +18,14 @@ pub record Asked : Type 0 where
 abbrev pub asked : ℕ → List ℕ → ℕ → Placed → Numbers → Option Planned → Asked
 asked now text nth placed numbers plan = record { now = now; text = text; nth = nth; placed = placed; numbers = numbers; plan = plan }
 
--- the server behind a call, and what became of the call
+-- the server behind a call, what became of the call, and how many strikes fell in its traversal
+pub record AnswerOf (S : Type 0) : Type 0 where
+  pub server : S
+  pub served : Served
+  pub strikes : ℕ
+
 abbrev pub Answering : Type 0 → Type 0
-Answering S = S → Asked → S × Served
+Answering S = S → Asked → AnswerOf S
 
 -- a call that is entered at a time, its reply sent, and finished
 abbrev pub plain_served : ℕ → List ℕ → Served
@@ -28,4 +33,4 @@ plain_served now reply = record { entered = Some (record { now = now; reply = re
 
 -- the plain server knows no faults
 abbrev pub plain_answering : Answering Server
-plain_answering s a = let answer = server_answer s a.now a.placed in (answer.0, plain_served a.now answer.1)
+plain_answering s a = let answer = server_answer s a.now a.placed in record { server = answer.0; served = plain_served a.now answer.1; strikes = 0 }

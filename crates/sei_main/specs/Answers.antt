@@ -66,6 +66,19 @@ IsReplayStatus NetFault = ⊥
 IsReplayStatus JournalFull = ⊥
 IsReplayStatus JournalFault = ⊥
 
+-- the statuses of a script that was run to its end
+abbrev pub HasRun : Status → Type 0
+HasRun Ok = ⊤
+HasRun Aborted = ⊤
+HasRun (Script line why) = ⊥
+HasRun ReadFault = ⊥
+HasRun WriteFault = ⊥
+HasRun Memory = ⊥
+HasRun Usage = ⊥
+HasRun NetFault = ⊥
+HasRun JournalFull = ⊥
+HasRun JournalFault = ⊥
+
 -- how the run of a script ends
 abbrev pub end_status : Bool → Status
 end_status false = Ok

@@ -12,7 +12,7 @@ use Rattle.sei_pass.specs.declared.given.Sealed.{Sealed}
 use Rattle.sei_traverse.specs.declared.turned.State.{State}
 use Rattle.sei_traverse.specs.declared.turned.State.TheVariants.{Went, Finished, Refused, Aborted}
 use Rattle.sei_traverse.specs.declared.turned.Want.{Want}
-use Rattle.sei_traverse.specs.declared.turned.Want.TheVariants.{Nothing, Take, Enter, Give, Send}
+use Rattle.sei_traverse.specs.declared.turned.Want.TheVariants.{Take, Enter, Give, Send}
 use Rattle.sei_traverse.specs.declared.walk.Walk.{Walk}
 use Rattle.sei_traverse.specs.Bounds.{most_steps}
 use Rattle.sei_traverse.specs.Phases.{reply_of}

@@ -1,24 +1,13 @@
 -- What the traversal of a call is to do, and one of its steps.
-use Rattle.std.specs.Prelude.{◌≡◌, ℕ, ◌+◌, ◌*◌, Bool, true, false, List, Option, Some, None, if◌then◌else◌}
+use Rattle.std.specs.Prelude.{ℕ, ◌*◌, List, Some}
 use Rattle.mc_model.specs.declared.geometry.Geometry.{Geometry}
 use Rattle.mc_model.specs.Call.{Placed}
 use Rattle.mc_render.specs.Rendering.{rendered}
-use Rattle.sei_fault.specs.Counts.{Counts}
-use Rattle.sei_fault.specs.Plain.{plain_counts}
-use Rattle.sei_words.specs.Loan.{place_of}
-use Rattle.sei_words.specs.Words.{BucketWords}
 use Rattle.sei_pass.specs.declared.given.Sealed.{Sealed}
-use Rattle.sei_pass.specs.State.{budget_of}
 use Rattle.sei_hand.specs.Commands.{hands_table}
 use Rattle.sei_hand.specs.Requests.{count_of_calls, parsed_call, parsed_of}
-use Rattle.sei_traverse.specs.declared.turned.Turned.{Turned}
-use Rattle.sei_traverse.specs.declared.turned.Want.{Want}
-use Rattle.sei_traverse.specs.declared.turned.Want.TheVariants.{Nothing, Take, Enter, Give, Send}
-use Rattle.sei_traverse.specs.Errand.{Errand, IsErrand}
-use Rattle.sei_traverse.specs.OnWay.{lent_words, Lends, OnWay, StaysOnWay}
+use Rattle.sei_traverse.specs.Errand.{Errand}
 use Rattle.sei_traverse.specs.Service.{Service, service_of}
-use Rattle.sei_traverse.specs.State.{TraversalState, one_more, goes_on}
-use Rattle.sei_traverse.specs.Walks.{log_room}
 
 -- the service of the hands of a geometry
 abbrev pub service_for : Geometry → Service

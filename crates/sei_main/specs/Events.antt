@@ -8,15 +8,15 @@ pub data Event : Type 0 where
   Entered : Entry → Event  -- a call was answered
   Sent : ℕ → List ℕ → Event  -- a message was sent to a connection
   Closed : ℕ → Event  -- a connection was closed by `quit` or a closing request
-  Refused : ℕ → Event  -- a connection was refused
-  Aborted : ℕ → ℕ → Abort → Event  -- a traversal of a connection was aborted
+  Refused : ℕ → ℕ → Event  -- a connection was refused, by a traversal in which so many strikes fell
+  Aborted : ℕ → ℕ → Abort → ℕ → Event  -- a traversal of a connection, by its number, was aborted, and so many strikes fell in it
 
 abbrev pub entry_in : Event → List Entry
 entry_in (Entered entry) = entry ∷ []
 entry_in (Sent c bytes) = []
 entry_in (Closed c) = []
-entry_in (Refused c) = []
-entry_in (Aborted c t abort) = []
+entry_in (Refused c strikes) = []
+entry_in (Aborted c t abort strikes) = []
 
 -- the history that these events make
 abbrev pub entries_of : List Event → List Entry
@@ -26,8 +26,8 @@ abbrev pub message_in : ℕ → Event → List (List ℕ)
 message_in c (Entered entry) = []
 message_in c (Sent d bytes) = if d == c then bytes ∷ [] else []
 message_in c (Closed d) = []
-message_in c (Refused d) = []
-message_in c (Aborted d t abort) = []
+message_in c (Refused d strikes) = []
+message_in c (Aborted d t abort strikes) = []
 
 -- the messages sent to connection c
 abbrev pub sent_to : ℕ → List Event → List (List ℕ)

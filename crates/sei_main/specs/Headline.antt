@@ -1,16 +1,16 @@
 -- What is claimed of the run of a script.
-use Rattle.std.specs.Prelude.{◌≡◌, ℕ, Bool, true, false, List, [], length}
+use Rattle.std.specs.Prelude.{◌≡◌, ℕ, Bool, true, false, List, [], length, All, ◌==◌, if◌then◌else◌}
 use Rattle.std.specs.List.{flat_map}
 use Rattle.mc_text.specs.Stream.{Takes, own_calls, own_requests, IsPrefixOf}
 use Rattle.sei_script.specs.declared.line.ScriptLine.{ScriptLine}
 use Rattle.sei_script.specs.declared.line.ScriptLine.TheVariants as lines
 use Rattle.sei_script.specs.Context.{geometry_of}
 use Rattle.sei_main.specs.Quiet.{is_quiet, ends_in_drain}
-use Rattle.std.specs.Prelude.{◌==◌, if◌then◌else◌}
 use Rattle.mc_text.specs.declared.limits.Limits.{Limits}
 use Rattle.sei_main.specs.History.{Entry, IsLegal}
 use Rattle.sei_main.specs.Own.{own_entries, calls_in, messages_of, accepted_of, IsNumbered}
 use Rattle.sei_main.specs.Events.{entries_of, sent_to}
+use Rattle.sei_main.specs.Ends.{NothingBehindAbort, IsOfStruck}
 use Rattle.sei_main.specs.Seats.{waiting}
 use Rattle.sei_main.specs.State.{limits_of, seat_at}
 use Rattle.sei_main.specs.Run.{run_of, struck_run_of}
@@ -33,9 +33,11 @@ fed_to c script = flat_map (fed_by c) script
 abbrev pub script_limits : List ScriptLine → Limits
 script_limits script = limits_of (geometry_of script)
 
--- the history that its run makes
+-- the run with the planned faults
+
+-- its history
 abbrev pub history_of : List ScriptLine → List Entry
-history_of script = entries_of (run_of script).events
+history_of script = entries_of (struck_run_of script).events
 
 abbrev pub IsLegalRun : List ScriptLine → Type 0
 IsLegalRun script = IsLegal (geometry_of script) (history_of script)
@@ -47,29 +49,39 @@ IsNumberedRun script = (c : ℕ) → IsNumbered (script_limits script) (fed_to c
 pub record SendsReplies (script : List ScriptLine) (c : ℕ) : Type 0 where
   pub answered : List Entry
   pub first : IsPrefixOf answered (own_entries c (history_of script))
-  pub sent : sent_to c (run_of script).events ≡ messages_of answered
-  pub took : (seat_at (run_of script).state c).sent ≡ length (accepted_of (sent_to c (run_of script).events))
+  pub sent : sent_to c (struck_run_of script).events ≡ messages_of answered
+  pub took : (seat_at (struck_run_of script).state c).sent ≡ length (accepted_of (sent_to c (struck_run_of script).events))
 
 abbrev pub SendsRepliesRun : List ScriptLine → Type 0
 SendsRepliesRun script = (c : ℕ) → SendsReplies script c
 
--- every call of connection c was answered, every reply was sent, and what waits is what no request of it took
-pub record AnswersAll (script : List ScriptLine) (c : ℕ) : Type 0 where
-  pub calls : calls_in (own_entries c (history_of script)) ≡ own_calls (script_limits script) (fed_to c script)
-  pub messages : sent_to c (run_of script).events ≡ messages_of (own_entries c (history_of script))
-  pub left : Takes (script_limits script) (fed_to c script) (own_requests (script_limits script) (fed_to c script)) (waiting (seat_at (run_of script).state c))
+-- no event stands behind an abort
+abbrev pub EndsAtAbortRun : List ScriptLine → Type 0
+EndsAtAbortRun script = NothingBehindAbort (struck_run_of script).events
 
-abbrev pub AnswersAllRun : List ScriptLine → Type 0
-AnswersAllRun script = is_quiet script ≡ true → ends_in_drain script ≡ true → (c : ℕ) → AnswersAll script c
+-- only what was struck is refused or aborted
+abbrev pub OnlyStruckEndsRun : List ScriptLine → Type 0
+OnlyStruckEndsRun script = All IsOfStruck (struck_run_of script).events
+
+-- a fault is planned
+abbrev pub PlansFault : List ScriptLine → Type 0
+PlansFault script = is_quiet script ≡ false
 
 -- what is claimed of quiet scripts
 abbrev pub WhenQuiet : (List ScriptLine → Type 0) → List ScriptLine → Type 0
 WhenQuiet P script = is_quiet script ≡ true → P script
 
--- the run with no planned faults is that of the plain server: it has no abort, and the same report
+-- the run is that of the plain server: it has no abort, the same events, and the same report
 pub record IsPlain (history : Bool) (script : List ScriptLine) : Type 0 where
   pub goes : (struck_run_of script).state.aborted ≡ false
+  pub events : (struck_run_of script).events ≡ (run_of script).events
   pub report : report_of history (struck_run_of script) ≡ report_of history (run_of script)
 
-abbrev pub PlansFault : List ScriptLine → Type 0
-PlansFault script = is_quiet script ≡ false
+-- every call of connection c was answered, every reply was sent, and what waits is what no request of it took
+pub record AnswersAll (script : List ScriptLine) (c : ℕ) : Type 0 where
+  pub calls : calls_in (own_entries c (history_of script)) ≡ own_calls (script_limits script) (fed_to c script)
+  pub messages : sent_to c (struck_run_of script).events ≡ messages_of (own_entries c (history_of script))
+  pub left : Takes (script_limits script) (fed_to c script) (own_requests (script_limits script) (fed_to c script)) (waiting (seat_at (struck_run_of script).state c))
+
+abbrev pub AnswersAllRun : List ScriptLine → Type 0
+AnswersAllRun script = is_quiet script ≡ true → ends_in_drain script ≡ true → (c : ℕ) → AnswersAll script c

@@ -2,6 +2,7 @@ pub mod Quiet
 pub mod History
 pub mod Own
 pub mod Events
+pub mod Ends
 pub mod Seats
 pub mod Plans
 pub mod State

@@ -17,8 +17,8 @@ abbrev pub text_of : Bool → Event → List ℕ
 text_of history (Entered entry) = history_text history entry.connection entry.number entry.bucket entry.now entry.reply
 text_of history (Sent c bytes) = sent_text c bytes
 text_of history (Closed c) = closed_text c
-text_of history (Refused c) = refused_text c
-text_of history (Aborted c t abort) = abort_text c t abort.phase abort.cause
+text_of history (Refused c strikes) = refused_text c
+text_of history (Aborted c t abort strikes) = abort_text c t abort.phase abort.cause
 
 -- the lines of a call: of its entry, of its message, and of the end of its traversal
 

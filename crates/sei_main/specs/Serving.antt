@@ -55,14 +55,14 @@ entered_events c number placed (Some e) = EnteredEvent (entry_for e.now c number
 abbrev pub sent_events : ℕ → List ℕ → List Event
 sent_events c message = flat_map (λ bytes. Sent c bytes ∷ []) (message_of message)
 
-abbrev pub ended_events : ℕ → ℕ → State → List Event
-ended_events c number Went = []
-ended_events c number Finished = []
-ended_events c number Refused = RefusedEvent c ∷ []
-ended_events c number (Aborted abort) = AbortedEvent c number abort ∷ []
+abbrev pub ended_events : ℕ → ℕ → State → ℕ → List Event
+ended_events c number Went strikes = []
+ended_events c number Finished strikes = []
+ended_events c number Refused strikes = RefusedEvent c strikes ∷ []
+ended_events c number (Aborted abort) strikes = AbortedEvent c number abort strikes ∷ []
 
-abbrev pub served_events : ℕ → ℕ → Placed → Served → List Event
-served_events c number placed s = entered_events c number placed s.entered ++ (sent_events c s.message ++ ended_events c number s.state)
+abbrev pub served_events : ℕ → ℕ → Placed → Served → ℕ → List Event
+served_events c number placed s strikes = entered_events c number placed s.entered ++ (sent_events c s.message ++ ended_events c number s.state strikes)
 
 -- calls of a request were answered: the server behind them, what happened, how many messages of the request were sent so
 -- far, and how the last traversal ended
@@ -106,10 +106,10 @@ module _ {S : Type 0} (answering : Answering S) where
   answer_in q nth messages server placed =
       let a = answering server (asked_in q nth messages placed) in
       record {
-        server = a.0;
-        events = served_events q.connection (q.first + nth) placed a.1;
-        messages = messages + length (message_of a.1.message);
-        state = a.1.state;
+        server = a.server;
+        events = served_events q.connection (q.first + nth) placed a.served a.strikes;
+        messages = messages + length (message_of a.served.message);
+        state = a.served.state;
       }
 
   -- its calls from number `nth` on

@@ -2,9 +2,10 @@
 use Rattle.std.specs.Prelude.{ℕ, List}
 use Rattle.sei_code.specs.Codes.{message_code}
 use Rattle.sei_code.specs.Coded.{sealed}
+use Rattle.sei_fault.specs.Script.{script_counts}
 use Rattle.sei_pass.specs.declared.given.Sealed.{Sealed}
 use Rattle.sei_main.specs.declared.world.service.Numbers.{Numbers}
-use Rattle.sei_main.specs.Answering.{Asked, Answering}
+use Rattle.sei_main.specs.Answering.{Answering}
 use Rattle.sei_main.specs.Course.{course_of}
 use Rattle.sei_main.specs.Tables.{Tables}
 
@@ -15,4 +16,4 @@ sealed_for text nth numbers = record { number = numbers.request; nth = sealed nt
 abbrev pub table_answering : Answering Tables
 table_answering t a =
     let c = course_of t.geometry a.text a.now t.buckets (sealed_for a.text a.nth a.numbers) a.plan in
-    (record t { buckets = c.buckets }, c.served)
+    record { server = record t { buckets = c.buckets }; served = c.served; strikes = (script_counts c.core).struck }

@@ -9,8 +9,8 @@ ghost use Rattle.sei_main.specs.State.{limits_of};
 ghost use Rattle.sei_main.specs.Run.{run_by, struck_run_of};
 ghost use Rattle.sei_main.specs.Serving.{step_by};
 ghost use Rattle.sei_main.specs.Report.{report_of};
-ghost use Rattle.sei_main.specs.Headline.{IsPlain, WhenQuiet, PlansFault, IsLegalRun, IsNumberedRun, SendsRepliesRun, AnswersAllRun};
-ghost use Rattle.sei_main.specs.Answers.{Answered, OnInput, IsReplayStatus, Refused, IsDecided, reading_in};
+ghost use Rattle.sei_main.specs.Headline.{IsLegalRun, IsNumberedRun, SendsRepliesRun, EndsAtAbortRun, OnlyStruckEndsRun, WhenQuiet, IsPlain, PlansFault, AnswersAllRun};
+ghost use Rattle.sei_main.specs.Answers.{Answered, OnInput, HasRun, IsReplayStatus, Refused, IsDecided, reading_in};
 
 use crate::plans::Plans;
 use crate::report::write_closing;
@@ -159,17 +159,21 @@ pub fn replay<S: Source, K: Sink>(
     ensures complete { ¬ Rose (S.faults source.old) (S.faults source.new) → ¬ Rose (K.faults sink.old) (K.faults sink.new)
         → IfSome (S.left source.old) (λ input. IsDecided (reading_in input) result) }
 
-    // A script that plans no fault is run as on the plain server, and is never aborted.
-    ensures quiet { result ≡ Status.Ok → OnInput (S.left source.old) (WhenQuiet (IsPlain history)) }
-    ensures planned { result ≡ Status.Aborted → OnInput (S.left source.old) PlansFault }
-    // The entries of such a run are one legal history of a memcached of one thread,
-    ensures legal { result ≡ Status.Ok → OnInput (S.left source.old) (WhenQuiet IsLegalRun) }
+    // Whatever faults are planned: the entries of a run are one legal history of a memcached of one thread,
+    ensures legal { HasRun result → OnInput (S.left source.old) IsLegalRun }
     // numbered in order for each connection, and asked as its own calls are;
-    ensures numbered { result ≡ Status.Ok → OnInput (S.left source.old) (WhenQuiet IsNumberedRun) }
+    ensures numbered { HasRun result → OnInput (S.left source.old) IsNumberedRun }
     // each connection is sent the messages of its first entries;
-    ensures sent { result ≡ Status.Ok → OnInput (S.left source.old) (WhenQuiet SendsRepliesRun) }
-    // and behind a last `drain` of a quiet script, all its calls are answered and all replies sent.
-    ensures all_answered { result ≡ Status.Ok → OnInput (S.left source.old) AnswersAllRun }
+    ensures sent { HasRun result → OnInput (S.left source.old) SendsRepliesRun }
+    // nothing happens behind an abort;
+    ensures nothing_after_abort { HasRun result → OnInput (S.left source.old) EndsAtAbortRun }
+    // and a traversal aborts, or a connection is refused, only where a strike fell in that traversal.
+    ensures only_struck_aborts { HasRun result → OnInput (S.left source.old) OnlyStruckEndsRun }
+    // A script that plans no fault is run as on the plain server, and is never aborted;
+    ensures quiet { HasRun result → OnInput (S.left source.old) (WhenQuiet (IsPlain history)) }
+    ensures planned { result ≡ Status.Aborted → OnInput (S.left source.old) PlansFault }
+    // and behind a last `drain` of it, all calls are answered and all replies sent.
+    ensures all_answered { HasRun result → OnInput (S.left source.old) AnswersAllRun }
 {
     replay_all(alloc, source, sink, history)
 }

@@ -1,8 +1,8 @@
 ghost use Rattle.std.specs.Prelude.{◌≡◌, ◌≤◌, true, false, IfSome, map, string_bytes};
 ghost use Rattle.std.specs.Io.KnownBytes.{IsAtEnd};
 ghost use Rattle.sei_outside.specs.Faults.{Rose};
-ghost use Rattle.sei_main.specs.Headline.{IsPlain, WhenQuiet, PlansFault, IsLegalRun, IsNumberedRun, SendsRepliesRun, AnswersAllRun};
-ghost use Rattle.sei_main.specs.Answers.{Answered, OnInput, IsDecided, IsReplayStatus, reading_in};
+ghost use Rattle.sei_main.specs.Headline.{IsLegalRun, IsNumberedRun, SendsRepliesRun, EndsAtAbortRun, OnlyStruckEndsRun, WhenQuiet, IsPlain, PlansFault, AnswersAllRun};
+ghost use Rattle.sei_main.specs.Answers.{Answered, OnInput, HasRun, IsDecided, IsReplayStatus, reading_in};
 ghost use Rattle.sei_main.specs.Forms.{is_replay, UsageWritten};
 
 use crate::replay::replay;
@@ -57,12 +57,14 @@ pub fn run<S: Source, K: Sink>(
     ensures aborted_at_end { result ≡ Status.Aborted → IsAtEnd (S.left source.new) }
     ensures complete { is_replay (map string_bytes words.now) ≡ true → ¬ Rose (S.faults source.old) (S.faults source.new) → ¬ Rose (K.faults sink.old) (K.faults sink.new)
         → IfSome (S.left source.old) (λ input. IsDecided (reading_in input) result) }
-    ensures quiet { result ≡ Status.Ok → OnInput (S.left source.old) (WhenQuiet (IsPlain false)) }
+    ensures legal { HasRun result → OnInput (S.left source.old) IsLegalRun }
+    ensures numbered { HasRun result → OnInput (S.left source.old) IsNumberedRun }
+    ensures sent { HasRun result → OnInput (S.left source.old) SendsRepliesRun }
+    ensures nothing_after_abort { HasRun result → OnInput (S.left source.old) EndsAtAbortRun }
+    ensures only_struck_aborts { HasRun result → OnInput (S.left source.old) OnlyStruckEndsRun }
+    ensures quiet { HasRun result → OnInput (S.left source.old) (WhenQuiet (IsPlain false)) }
     ensures planned { result ≡ Status.Aborted → OnInput (S.left source.old) PlansFault }
-    ensures legal { result ≡ Status.Ok → OnInput (S.left source.old) (WhenQuiet IsLegalRun) }
-    ensures numbered { result ≡ Status.Ok → OnInput (S.left source.old) (WhenQuiet IsNumberedRun) }
-    ensures sent { result ≡ Status.Ok → OnInput (S.left source.old) (WhenQuiet SendsRepliesRun) }
-    ensures all_answered { result ≡ Status.Ok → OnInput (S.left source.old) AnswersAllRun }
+    ensures all_answered { HasRun result → OnInput (S.left source.old) AnswersAllRun }
 {
     if is_replay(words) {
         replay(alloc, source, sink, false)

@@ -42,7 +42,7 @@ pub struct Served {
 
 /// A server of calls: what becomes of a call is a function of the server's state and of what it is asked.
 pub trait Service {
-    /// The server behind a call, and what became of it.
+    /// The server behind a call, what became of it, and how many strikes fell in its traversal.
     ghost answering: { Answering Self };
 
     /// The limits of the requests that it is asked, which never change.
@@ -64,8 +64,8 @@ pub trait Service {
         requires span { IsSpanOf text.now call.now }
         requires hash { HasOwnHash text.now call.now }
         requires call { IsCallAt (limits self.old) text.now nth (placed_of text.now call.now) }
-        ensures server { OnOk result (self.new ≡ (answering self.old (asked now text.now nth (placed_of text.now call.now) numbers plan)).0) }
-        ensures served { IfOk result (λ served. served ≡ (answering self.old (asked now text.now nth (placed_of text.now call.now) numbers plan)).1) }
+        ensures server { OnOk result (self.new ≡ (answering self.old (asked now text.now nth (placed_of text.now call.now) numbers plan)).server) }
+        ensures served { IfOk result (λ served. served ≡ (answering self.old (asked now text.now nth (placed_of text.now call.now) numbers plan)).served) }
         ensures limits { limits self.new ≡ limits self.old };
 }
 

@@ -1,4 +1,4 @@
-use Rattle.std.proofs.Common.{◌≡◌, ◌+◌, ◌<◌, ◌^◌, ◌∙◌, ℕ, refl, ap, sym, arith}
+use Rattle.std.proofs.Common.{◌+◌, ◌<◌, ◌^◌, ◌∙◌, ℕ, refl, ap, sym, arith}
 use Rattle.sei_main.specs.Course.{Course, course_begun, course_from}
 use Rattle.sei_main.proofs.Turns.{ended, goes, not_ended, still_goes, state_behind}
 use Rattle.sei_main.proofs.tables.traverse.Goals as goal

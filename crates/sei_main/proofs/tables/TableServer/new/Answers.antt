@@ -1,4 +1,4 @@
-use Rattle.std.proofs.Common.{refl, sym, subst}
+use Rattle.std.proofs.Common.{sym, subst}
 use Rattle.std.specs.Prelude.{List, All}
 use Rattle.sei_words.specs.Words.{BucketWords}
 use Rattle.sei_main.specs.Tables.{IsOfGeometry}

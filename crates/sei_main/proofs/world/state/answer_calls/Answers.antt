@@ -9,7 +9,7 @@ use Rattle.sei_main.specs.Asked.{IsCallAt}
 use Rattle.sei_main.specs.Becomes.{asking_of}
 use Rattle.sei_main.proofs.Asked.{call_at}
 use Rattle.sei_main.proofs.Calls.{few_calls}
-use Rattle.sei_main.proofs.CallsSoFar.{CallsSoFar, calls_start, call_more, call_part, stop_server, stop_answered, stop_all, end_server, end_answered, end_all, call_is_there, none_of, unfinished, finished_is}
+use Rattle.sei_main.proofs.CallsSoFar.{CallsSoFar, calls_start, call_more, call_part, stop_server, stop_answered, stop_all, call_is_there, none_of, unfinished, finished_is}
 use Rattle.sei_main.proofs.world.state.answer_calls.Goals as goal
 use Rattle.sei_main.proofs.world.state.answer_calls.Goals.{in-Some+in_ok-answered+else-is_stopped, in_default}
 
