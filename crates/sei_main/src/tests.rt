@@ -141,15 +141,30 @@ fn ends_other_than_ok(rt: HostRuntime) -> Result<(), Fail> {
 
 #[test]
 fn histories(rt: HostRuntime) -> Result<(), Fail> {
-    let script =
-        b"geometry 1 1 3\nopen 0 plain\nsay 0 set a 0 0 1 noreply\\r\\nx\\r\\nget a\\r\\n\ndrain\n";
-    let mut source = MemorySource::new(script.to_vec(rt.alloc())?, Vec::new(rt.alloc()));
-    let mut sink = MemorySink::new(rt.alloc(), 1000, Vec::new(rt.alloc()))?;
-    let status = replay(rt.alloc(), &mut source, &mut sink, true);
-    let report =
-        b"entry 0 0 0 0 -\nentry 0 1 0 0 VALUE a 0 1\\r\\nx\\r\\nEND\\r\\n\nsent 0 VALUE a 0 1\\r\\nx\\r\\nEND\\r\\n\ntook 0 1\nend ok\n";
-    assert!(rt; sink.bytes() == report.as_slice());
-    assert_eq!(rt; status.code(), 0);
+    // What follows the opening of connection 0, the report with its entries, and the status.
+    let table = [
+        (
+            "say 0 set a 0 0 1 noreply\\r\\nx\\r\\nget a\\r\\n\n",
+            "entry 0 0 0 0 -\nentry 0 1 0 0 VALUE a 0 1\\r\\nx\\r\\nEND\\r\\n\nsent 0 VALUE a 0 1\\r\\nx\\r\\nEND\\r\\n\ntook 0 1\nend ok\n",
+            0,
+        ),
+        (
+            "fault 0 0 send at 0 skip\nsay 0 set a 0 0 1\\r\\nx\\r\\n\n",
+            "entry 0 0 0 0 STORED\\r\\n\nabort 0 0 done gate 9\ntook 0 0\nleft 0 16\nend aborted\n",
+            3,
+        ),
+    ];
+    for (text, report, code) in &table {
+        let script = format!(in rt.alloc(); "geometry 1 1 3\nopen 0 plain\n{text}drain\n")?;
+        let mut source = MemorySource::new(
+            script.as_bytes().to_vec(rt.alloc())?,
+            Vec::new(rt.alloc()),
+        );
+        let mut sink = MemorySink::new(rt.alloc(), 1000, Vec::new(rt.alloc()))?;
+        let status = replay(rt.alloc(), &mut source, &mut sink, true);
+        assert!(rt; sink.bytes() == report.as_bytes(), "{text}");
+        assert_eq!(rt; status.code(), *code, "{text}");
+    }
     Ok(())
 }
 
@@ -216,6 +231,10 @@ fn faults_in_the_first_call(rt: HostRuntime) -> Result<(), Fail> {
         ("first now jump send 0", "abort 0 0 send gate 2\ntook 0 0\n"),
         ("first now jump done 0", "abort 0 0 done gate 2\ntook 0 0\n"),
         (
+            "first now jump done 1",
+            "abort 0 0 first gate 2\ntook 0 0\n",
+        ),
+        (
             "give at 0 jump first 0",
             "abort 0 0 first bucket\ntook 0 0\n",
         ),
@@ -272,9 +291,9 @@ fn faults_in_other_places(rt: HostRuntime) -> Result<(), Fail> {
             3,
         ),
         (
-            "1 1 3\nopen 0 plain\nfault 0 0 guard at 0 skip\nfault 0 0 send at 0 skip\n",
-            "script line 4: second fault\n",
-            2,
+            "1 1 3\nopen 0 plain\nfault 0 0 guard at 0 flip\nsay 0 set a 0 0 1\\r\\nx\\r\\n\ndrain\n",
+            "refused 0\ntook 0 0\nleft 0 16\nend ok\n",
+            0,
         ),
         (
             "1 1 3\nopen 0 plain\nsay 0 get a\\r\\nget a b\\r\\nget b\\r\\n\ndrain\nsay 0 get c\\r\\n\ndrain\nfault 0 2 guard at 0 flip\n",
