@@ -1,24 +1,34 @@
 #!/usr/bin/env python3
-"""Plans one fault after another in a script, replays each, and prints a table of what came of them.
+"""Plans one fault after another in a script, replays each, and prints tables of what came of them.
 
-usage: fault_table.py PROGRAM
+usage: fault_table.py PROGRAM [--steps]
 
 PROGRAM is the proved program (crates/sei_main/out/sei_main). Two scripts are run in one bucket of one
-slot: a `set` on the empty bucket, and a `get` behind a `set`. For each phase and each kind of fault a
-plan is made for every step that the traversal makes there, and the reports are counted. Reads are those
-of the first three values of a step, masks are 1, and jumps lead to the first step of each phase:
+slot: a `set` on the empty bucket with a `get` behind it, and a `get` behind a `set` with one more `get`
+behind it. The `set` is struck in the first, and in the second the first `get`; the request behind the
+struck one reads the key back. For each phase and each kind of fault a plan is made for every step that
+the traversal makes there, and the reports are counted. Reads are those of the first three values of a
+step, masks are 1, and jumps lead to the first step of each phase:
 
-    right    the report is that of the script without a fault: the plan did not strike, or what it did
-             was right all the same
-    refused  the connection was refused, and nothing wrong was sent before
-    PHASE CAUSE  the traversal aborted there, and nothing wrong was sent before
+    right    the whole report is that of the script without a fault, so the key was read back right: the
+             plan did not strike, or what it did was right all the same
+    refused  the connection was refused, and nothing was sent of this request and those behind it
+    PHASE CAUSE  the traversal aborted there; the right message of it was sent before, or none, and
+             nothing behind it
 
-A message that the script without a fault does not send in this place is printed as `WRONG`, and then
+Each cell has the count in front: `5 right, 1 take gate`. The number that belongs to a cause is left out.
+With `--steps` each step has a row, each fault a column, and a cause its number.
+
+Of each replay the whole report is looked at: which messages are sent, that `took` counts them and `left`
+the bytes of the requests from the struck one on, the last line, and the exit status, which is 3 behind an
+abort and else 0. Where anything is wrong, it is told on standard error, `WRONG` stands in the table, and
 the status is 1.
 """
+import os
 import subprocess
 import sys
 from collections import Counter
+from concurrent.futures import ThreadPoolExecutor
 
 SET = "set a 0 0 1\\r\\nx\\r\\n"
 GET = "get a\\r\\n"
@@ -31,80 +41,136 @@ KINDS = [
     ("repeat", ["repeat"]),
     ("jump", [f"jump {phase} 0" for phase in PHASES]),
 ]
+FAULTS = [fault for _, faults in KINDS for fault in faults]
+# So many indices in a row at which no step is made end the search for steps.
+MOST_MISSED = 400
 
 
-def replay(program, text):
-    done = subprocess.run([program, "replay"], input=text.encode(), stdout=subprocess.PIPE, check=False)
-    return done.stdout.decode().splitlines()
+class Load:
+    """Requests on connection 0, one call each, and which of them is struck."""
+
+    def __init__(self, program, title, requests, struck):
+        self.program = program
+        self.title = title
+        self.requests = requests
+        self.struck = struck
+        self.quiet, status = self.replay(None)
+        self.sent = [line for line in self.quiet if line.startswith("sent 0 ")]
+        took = f"took 0 {len(requests)}"
+        self.is_sound = status == 0 and len(self.sent) == len(requests) and self.quiet == [*self.sent, took, "end ok"]
+
+    def replay(self, fault):
+        """The report and the exit status, with this fault planned for the struck request, or with none."""
+        planned = [f"fault 0 {self.struck} {fault}"] if fault else []
+        said = "".join(self.requests)
+        text = "\n".join(["geometry 1 1 3", "open 0 plain", *planned, f"say 0 {said}", "drain", ""])
+        done = subprocess.run([self.program, "replay"], input=text.encode(), stdout=subprocess.PIPE, check=False)
+        return done.stdout.decode().splitlines(), done.returncode
+
+    def bytes_left(self):
+        """How many bytes the struck request and those behind it have."""
+        said = "".join(self.requests[self.struck :])
+        return len(said.encode().decode("unicode_escape"))
+
+    def reports(self, line):
+        """The reports in which the struck request ends with this line."""
+        ends = ["end aborted" if line.startswith("abort ") else "end ok"]
+        most = self.struck + 1 if line.startswith("abort ") else self.struck
+        for sent in range(self.struck, most + 1):
+            yield [*self.sent[:sent], line, f"took 0 {sent}", f"left 0 {self.bytes_left()}", *ends]
+
+    def outcome(self, fault):
+        """What came of a fault, with the exact cause; None where a report or a status is wrong."""
+        report, status = self.replay(fault)
+        if report == self.quiet:
+            return "right" if status == 0 else None
+        abort = f"abort 0 {self.struck} "
+        for line in report:
+            if line.startswith(abort) and report in self.reports(line):
+                return line.removeprefix(abort) if status == 3 else None
+            if line == "refused 0" and report in self.reports(line):
+                return "refused" if status == 0 else None
+        return None
+
+    def makes(self, phase, index):
+        """Whether a step is made at this index: there a jump to a place that is no step aborts."""
+        return self.replay(f"{phase} at {index} jump guard 4000")[0] != self.quiet
+
+    def steps(self, phase):
+        """The indices at which the phase makes a step."""
+        found, missed, index = [], 0, 0
+        while missed < MOST_MISSED:
+            if self.makes(phase, index):
+                found.append(index)
+                missed = 0
+            else:
+                missed += 1
+            index += 1
+        return found
+
+    def ends(self, pool, phase):
+        """For each step of a phase, what comes of each fault."""
+        steps = self.steps(phase)
+        faults = [f"{phase} at {index} {fault}" for index in steps for fault in FAULTS]
+        ends = list(pool.map(self.outcome, faults))
+        for fault, end in zip(faults, ends):
+            if end is None:
+                sys.stderr.write(f"wrong: {''.join(self.requests)} with fault 0 {self.struck} {fault}\n")
+        width = len(FAULTS)
+        return {index: dict(zip(FAULTS, ends[at * width :])) for at, index in enumerate(steps)}
 
 
-def script(said, fault):
-    planned = [fault] if fault else []
-    return "\n".join(["geometry 1 1 3", "open 0 plain", *planned, f"say 0 {said}", "drain", ""])
+def row(cells):
+    return "| " + " | ".join(cells) + " |"
 
 
-def outcome(quiet, report):
-    """What came of a fault, by the report without it and the report with it."""
-    if report == quiet:
-        return "right"
-    sent = [line for line in report if line.startswith("sent ")]
-    if sent != [line for line in quiet if line.startswith("sent ")][: len(sent)]:
-        return "WRONG"
-    for line in report:
-        words = line.split()
-        if words[0] == "abort":
-            return " ".join(words[3:5])
-        if words[0] == "refused":
-            return "refused"
-    return "WRONG"
+def heading(cells):
+    return [row(cells), "|---" * len(cells) + "|"]
 
 
-def steps(program, said, traversal, phase):
-    """The indices at which the phase makes a step: there a jump to a place that is no step aborts."""
-    quiet = replay(program, script(said, None))
-    found, missed, index = [], 0, 0
-    while missed < 400:
-        fault = f"fault 0 {traversal} {phase} at {index} jump guard 4000"
-        if replay(program, script(said, fault)) != quiet:
-            found.append(index)
-            missed = 0
-        else:
-            missed += 1
-        index += 1
-    return found
+def counted(ends):
+    """The ends with their counts, those that are right first, and causes without their numbers."""
+    kinds = Counter("WRONG" if end is None else " ".join(end.split()[:2]) for end in ends)
+    ordered = sorted(kinds.items(), key=lambda kind: (kind[0] != "right", kind[0]))
+    return ", ".join(f"{count} {kind}" for kind, count in ordered)
 
 
-def table(program, title, said, traversal):
-    """Prints the table of one script, and answers whether a message of it was wrong."""
-    quiet = replay(program, script(said, None))
-    wrong = False
-    print(f"\n{title}\n")
-    print("| phase, steps | " + " | ".join(name for name, _ in KINDS) + " |")
-    print("|---" * (len(KINDS) + 1) + "|")
+def phase_rows(phase, ends):
+    cells = [counted(end[fault] for end in ends.values() for fault in faults) for _, faults in KINDS]
+    return [row([f"{phase}, {len(ends)}", *cells])]
+
+
+def step_rows(phase, ends):
+    return [row([f"{phase} {index}", *(end[fault] or "WRONG" for fault in FAULTS)]) for index, end in ends.items()]
+
+
+def table(pool, load, by_steps):
+    """The lines of the table of one script, and whether all is right in it."""
+    lines = [load.title, ""]
+    lines += heading(["step", *FAULTS]) if by_steps else heading(["phase, steps", *(name for name, _ in KINDS)])
+    is_sound = load.is_sound
+    if not is_sound:
+        sys.stderr.write(f"wrong: {''.join(load.requests)} without a fault\n")
     for phase in PHASES:
-        indices = steps(program, said, traversal, phase)
-        cells = []
-        for _, faults in KINDS:
-            ends = Counter()
-            for index in indices:
-                for kind in faults:
-                    fault = f"fault 0 {traversal} {phase} at {index} {kind}"
-                    ends[outcome(quiet, replay(program, script(said, fault)))] += 1
-            wrong = wrong or "WRONG" in ends
-            ordered = sorted(ends.items(), key=lambda end: (end[0] != "right", end[0]))
-            cells.append(", ".join(f"{end} {count}" for end, count in ordered))
-        print(f"| {phase}, {len(indices)} | " + " | ".join(cells) + " |")
-    return wrong
+        ends = load.ends(pool, phase)
+        lines += step_rows(phase, ends) if by_steps else phase_rows(phase, ends)
+        is_sound = is_sound and all(None not in end.values() for end in ends.values())
+    return lines, is_sound
 
 
 def main(words):
-    if len(words) != 1:
+    by_steps = words[1:] == ["--steps"]
+    if not words or (words[1:] and not by_steps):
         sys.stderr.write(__doc__)
         return 1
-    program = words[0]
-    first = table(program, "`set` on an empty bucket", SET, 0)
-    second = table(program, "`get` of what was set before", SET + GET, 1)
-    return 1 if first or second else 0
+    loads = [
+        Load(words[0], "A `set` of a new key:", [SET, GET], 0),
+        Load(words[0], "A `get` of it:", [SET, GET, GET], 1),
+    ]
+    with ThreadPoolExecutor(os.cpu_count()) as pool:
+        tables = [table(pool, load, by_steps) for load in loads]
+    print("\n\n".join("\n".join(lines) for lines, _ in tables))
+    return 0 if all(is_sound for _, is_sound in tables) else 1
 
 
 if __name__ == "__main__":
