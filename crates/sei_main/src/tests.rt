@@ -247,6 +247,10 @@ fn faults_in_the_first_call(rt: HostRuntime) -> Result<(), Fail> {
             "second render write 1",
             "abort 0 0 compare reply\ntook 0 0\n",
         ),
+        (
+            "compare at 0 flip",
+            "abort 0 0 compare differs 0\ntook 0 0\n",
+        ),
         ("verify at 9 write 1", "abort 0 0 verify wire\ntook 0 0\n"),
     ];
     for (fault, report) in &table {
