@@ -22,7 +22,7 @@ With `--steps` each step has a row, each fault a column, and a cause its number.
 Of each replay the whole report is looked at: which messages are sent, that `took` counts them and `left`
 the bytes of the requests from the struck one on, the last line, and the exit status, which is 3 behind an
 abort and else 0. Where anything is wrong, it is told on standard error, `WRONG` stands in the table, and
-the status is 1.
+the status is 1. A phase in which no fault strikes is wrong too.
 """
 import os
 import subprocess
@@ -73,11 +73,12 @@ class Load:
         return len(said.encode().decode("unicode_escape"))
 
     def reports(self, line):
-        """The reports in which the struck request ends with this line."""
-        ends = ["end aborted" if line.startswith("abort ") else "end ok"]
-        most = self.struck + 1 if line.startswith("abort ") else self.struck
+        """The reports in which the struck request ends with this line: only an abort may stand behind its message."""
+        is_abort = line.startswith("abort ")
+        last = "end aborted" if is_abort else "end ok"
+        most = self.struck + 1 if is_abort else self.struck
         for sent in range(self.struck, most + 1):
-            yield [*self.sent[:sent], line, f"took 0 {sent}", f"left 0 {self.bytes_left()}", *ends]
+            yield [*self.sent[:sent], line, f"took 0 {sent}", f"left 0 {self.bytes_left()}", last]
 
     def outcome(self, fault):
         """What came of a fault, with the exact cause; None where a report or a status is wrong."""
@@ -111,6 +112,8 @@ class Load:
     def ends(self, pool, phase):
         """For each step of a phase, what comes of each fault."""
         steps = self.steps(phase)
+        if not steps:
+            sys.stderr.write(f"wrong: {''.join(self.requests)} makes no step of {phase} that a fault could strike\n")
         faults = [f"{phase} at {index} {fault}" for index in steps for fault in FAULTS]
         ends = list(pool.map(self.outcome, faults))
         for fault, end in zip(faults, ends):
@@ -154,7 +157,7 @@ def table(pool, load, by_steps):
     for phase in PHASES:
         ends = load.ends(pool, phase)
         lines += step_rows(phase, ends) if by_steps else phase_rows(phase, ends)
-        is_sound = is_sound and all(None not in end.values() for end in ends.values())
+        is_sound = is_sound and bool(ends) and all(None not in end.values() for end in ends.values())
     return lines, is_sound
 
 
