@@ -4,7 +4,7 @@ use Rattle.std.specs.Prelude.{All, ⊤}
 use Rattle.std.proofs.lemmas.List.Elements.{All-nil, All-cons, All-append}
 use Rattle.sei_main.specs.History.{Entry}
 use Rattle.sei_main.specs.Events.{Event, Entered, Sent, Closed, Refused, Aborted}
-use Rattle.sei_main.specs.Ends.{NothingBehindAbort, IsOfStruck}
+use Rattle.sei_main.specs.Ends.{NothingAfterAbort, IsOfStruck}
 use Rattle.sei_main.specs.State.{closed_events}
 use Rattle.sei_main.proofs.Answering.{sending}
 use Rattle.sei_traverse.specs.declared.turned.Abort.{Abort}
@@ -25,9 +25,9 @@ pub record GoesOn (events : List Event) : Type 0 where
 
 pub record EndsStruck (events : List Event) : Type 0 where
   pub struck : All IsOfStruck events
-  pub last : NothingBehindAbort events
+  pub last : NothingAfterAbort events
 
-pub last_none : (events : List Event) → HasNoAbort events → NothingBehindAbort events
+pub last_none : (events : List Event) → HasNoAbort events → NothingAfterAbort events
 last_none [] h = tt
 last_none (Entered entry ∷ later) h = last_none later h
 last_none (Sent c bytes ∷ later) h = last_none later h
@@ -43,7 +43,7 @@ none_append (Closed c ∷ xs) ys h k = none_append xs ys h k
 none_append (Refused c strikes ∷ xs) ys h k = none_append xs ys h k
 none_append (Aborted c t abort strikes ∷ xs) ys h k = absurd h
 
-last_append : (xs ys : List Event) → HasNoAbort xs → NothingBehindAbort ys → NothingBehindAbort (xs ++ ys)
+last_append : (xs ys : List Event) → HasNoAbort xs → NothingAfterAbort ys → NothingAfterAbort (xs ++ ys)
 last_append [] ys h k = k
 last_append (Entered entry ∷ xs) ys h k = last_append xs ys h k
 last_append (Sent c bytes ∷ xs) ys h k = last_append xs ys h k

@@ -25,7 +25,7 @@ use Rattle.sei_main.specs.State.{State, limits_of, next_request, seat_at}
 use Rattle.sei_main.specs.TableAnswers.{table_answering}
 use Rattle.sei_main.specs.Tables.{fresh_tables}
 use Rattle.sei_main.specs.Run.{start, run_of, struck_run_of}
-use Rattle.sei_main.specs.Headline.{fed_to, script_limits, history_of, IsLegalRun, IsNumberedRun, SendsRepliesRun, EndsAtAbortRun, OnlyStruckEndsRun, AnswersAllRun}
+use Rattle.sei_main.specs.Headline.{fed_to, script_limits, history_of, IsLegalRun, IsNumberedRun, SendsRepliesRun, NothingAfterAbortRun, OnlyStruckAbortsRun, AnswersAllRun}
 use Rattle.sei_main.proofs.Drained.{nothing_waits, drain_ends}
 use Rattle.sei_main.proofs.Kept.{Kept}
 use Rattle.sei_main.proofs.KeptRun.{run_keeps}
@@ -62,10 +62,10 @@ sent script r c =
     sent_stands (length (plans_of script)) (script_limits script) (fed_to c script) _ _ (seat_at (struck_run_of script).state c) (seat_stands script r c) in
     record { answered = s.answered; first = s.first; sent = s.sent_is; took = s.took }
 
-pub nothing_after_abort : (script : List ScriptLine) → IsRunnable script → EndsAtAbortRun script
+pub nothing_after_abort : (script : List ScriptLine) → IsRunnable script → NothingAfterAbortRun script
 nothing_after_abort script r = (kept script r).ends.last
 
-pub only_struck : (script : List ScriptLine) → IsRunnable script → OnlyStruckEndsRun script
+pub only_struck : (script : List ScriptLine) → IsRunnable script → OnlyStruckAbortsRun script
 only_struck script r = (kept script r).ends.struck
 
 -- Of a quiet script.

@@ -3,13 +3,13 @@ use Rattle.std.specs.Prelude.{◌≡◌, ◌<◌, List, [], ◌∷◌, ⊤}
 use Rattle.sei_main.specs.Events.{Event, Entered, Sent, Closed, Refused, Aborted}
 
 -- an abort is the last event
-abbrev pub NothingBehindAbort : List Event → Type 0
-NothingBehindAbort [] = ⊤
-NothingBehindAbort (Entered entry ∷ later) = NothingBehindAbort later
-NothingBehindAbort (Sent c bytes ∷ later) = NothingBehindAbort later
-NothingBehindAbort (Closed c ∷ later) = NothingBehindAbort later
-NothingBehindAbort (Refused c strikes ∷ later) = NothingBehindAbort later
-NothingBehindAbort (Aborted c t abort strikes ∷ later) = later ≡ []
+abbrev pub NothingAfterAbort : List Event → Type 0
+NothingAfterAbort [] = ⊤
+NothingAfterAbort (Entered entry ∷ later) = NothingAfterAbort later
+NothingAfterAbort (Sent c bytes ∷ later) = NothingAfterAbort later
+NothingAfterAbort (Closed c ∷ later) = NothingAfterAbort later
+NothingAfterAbort (Refused c strikes ∷ later) = NothingAfterAbort later
+NothingAfterAbort (Aborted c t abort strikes ∷ later) = later ≡ []
 
 -- a connection is refused, and a traversal aborted, only where a strike fell in that traversal
 abbrev pub IsOfStruck : Event → Type 0

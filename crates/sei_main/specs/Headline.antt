@@ -10,7 +10,7 @@ use Rattle.mc_text.specs.declared.limits.Limits.{Limits}
 use Rattle.sei_main.specs.History.{Entry, IsLegal}
 use Rattle.sei_main.specs.Own.{own_entries, calls_in, messages_of, accepted_of, IsNumbered}
 use Rattle.sei_main.specs.Events.{entries_of, sent_to}
-use Rattle.sei_main.specs.Ends.{NothingBehindAbort, IsOfStruck}
+use Rattle.sei_main.specs.Ends.{NothingAfterAbort, IsOfStruck}
 use Rattle.sei_main.specs.Seats.{waiting}
 use Rattle.sei_main.specs.State.{limits_of, seat_at}
 use Rattle.sei_main.specs.Run.{run_of, struck_run_of}
@@ -56,12 +56,12 @@ abbrev pub SendsRepliesRun : List ScriptLine → Type 0
 SendsRepliesRun script = (c : ℕ) → SendsReplies script c
 
 -- no event stands behind an abort
-abbrev pub EndsAtAbortRun : List ScriptLine → Type 0
-EndsAtAbortRun script = NothingBehindAbort (struck_run_of script).events
+abbrev pub NothingAfterAbortRun : List ScriptLine → Type 0
+NothingAfterAbortRun script = NothingAfterAbort (struck_run_of script).events
 
 -- only what was struck is refused or aborted
-abbrev pub OnlyStruckEndsRun : List ScriptLine → Type 0
-OnlyStruckEndsRun script = All IsOfStruck (struck_run_of script).events
+abbrev pub OnlyStruckAbortsRun : List ScriptLine → Type 0
+OnlyStruckAbortsRun script = All IsOfStruck (struck_run_of script).events
 
 -- a fault is planned
 abbrev pub PlansFault : List ScriptLine → Type 0

@@ -9,7 +9,7 @@ ghost use Rattle.sei_main.specs.State.{limits_of};
 ghost use Rattle.sei_main.specs.Run.{run_by, struck_run_of};
 ghost use Rattle.sei_main.specs.Serving.{step_by};
 ghost use Rattle.sei_main.specs.Report.{report_of};
-ghost use Rattle.sei_main.specs.Headline.{IsLegalRun, IsNumberedRun, SendsRepliesRun, EndsAtAbortRun, OnlyStruckEndsRun, WhenQuiet, IsPlain, PlansFault, AnswersAllRun};
+ghost use Rattle.sei_main.specs.Headline.{IsLegalRun, IsNumberedRun, SendsRepliesRun, NothingAfterAbortRun, OnlyStruckAbortsRun, WhenQuiet, IsPlain, PlansFault, AnswersAllRun};
 ghost use Rattle.sei_main.specs.Answers.{Answered, OnInput, HasRun, IsReplayStatus, Refused, IsDecided, reading_in};
 
 use crate::plans::Plans;
@@ -166,9 +166,9 @@ pub fn replay<S: Source, K: Sink>(
     // each connection is sent the messages of its first entries;
     ensures sent { HasRun result → OnInput (S.left source.old) SendsRepliesRun }
     // nothing happens behind an abort;
-    ensures nothing_after_abort { HasRun result → OnInput (S.left source.old) EndsAtAbortRun }
+    ensures nothing_after_abort { HasRun result → OnInput (S.left source.old) NothingAfterAbortRun }
     // and a traversal aborts, or a connection is refused, only where a strike fell in that traversal.
-    ensures only_struck_aborts { HasRun result → OnInput (S.left source.old) OnlyStruckEndsRun }
+    ensures only_struck_aborts { HasRun result → OnInput (S.left source.old) OnlyStruckAbortsRun }
     // A script that plans no fault is run as on the plain server, and is never aborted;
     ensures quiet { HasRun result → OnInput (S.left source.old) (WhenQuiet (IsPlain history)) }
     ensures planned { result ≡ Status.Aborted → OnInput (S.left source.old) PlansFault }

@@ -1,7 +1,7 @@
 ghost use Rattle.std.specs.Prelude.{◌≡◌, ◌≤◌, true, false, IfSome, map, string_bytes};
 ghost use Rattle.std.specs.Io.KnownBytes.{IsAtEnd};
 ghost use Rattle.sei_outside.specs.Faults.{Rose};
-ghost use Rattle.sei_main.specs.Headline.{IsLegalRun, IsNumberedRun, SendsRepliesRun, EndsAtAbortRun, OnlyStruckEndsRun, WhenQuiet, IsPlain, PlansFault, AnswersAllRun};
+ghost use Rattle.sei_main.specs.Headline.{IsLegalRun, IsNumberedRun, SendsRepliesRun, NothingAfterAbortRun, OnlyStruckAbortsRun, WhenQuiet, IsPlain, PlansFault, AnswersAllRun};
 ghost use Rattle.sei_main.specs.Answers.{Answered, OnInput, HasRun, IsDecided, IsReplayStatus, reading_in};
 ghost use Rattle.sei_main.specs.Forms.{is_replay, UsageWritten};
 
@@ -60,8 +60,8 @@ pub fn run<S: Source, K: Sink>(
     ensures legal { HasRun result → OnInput (S.left source.old) IsLegalRun }
     ensures numbered { HasRun result → OnInput (S.left source.old) IsNumberedRun }
     ensures sent { HasRun result → OnInput (S.left source.old) SendsRepliesRun }
-    ensures nothing_after_abort { HasRun result → OnInput (S.left source.old) EndsAtAbortRun }
-    ensures only_struck_aborts { HasRun result → OnInput (S.left source.old) OnlyStruckEndsRun }
+    ensures nothing_after_abort { HasRun result → OnInput (S.left source.old) NothingAfterAbortRun }
+    ensures only_struck_aborts { HasRun result → OnInput (S.left source.old) OnlyStruckAbortsRun }
     ensures quiet { HasRun result → OnInput (S.left source.old) (WhenQuiet (IsPlain false)) }
     ensures planned { result ≡ Status.Aborted → OnInput (S.left source.old) PlansFault }
     ensures all_answered { HasRun result → OnInput (S.left source.old) AnswersAllRun }

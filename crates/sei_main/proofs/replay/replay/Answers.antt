@@ -1,4 +1,4 @@
-use Rattle.sei_main.specs.Headline.{WhenQuiet, IsPlain, PlansFault, IsLegalRun, IsNumberedRun, SendsRepliesRun, EndsAtAbortRun, OnlyStruckEndsRun, AnswersAllRun}
+use Rattle.sei_main.specs.Headline.{WhenQuiet, IsPlain, PlansFault, IsLegalRun, IsNumberedRun, SendsRepliesRun, NothingAfterAbortRun, OnlyStruckAbortsRun, AnswersAllRun}
 use Rattle.sei_main.proofs.Laws.{legal, numbered, sent, nothing_after_abort, only_struck, all_answered}
 use Rattle.sei_main.proofs.Headline.{law_of, law_of_aborted, complete}
 use Rattle.sei_main.proofs.TableRuns.{plain_run, plans_fault}
@@ -14,10 +14,10 @@ pub returns-clause-sent : goal.returns-clause-sent
 returns-clause-sent g c = law_of SendsRepliesRun sent _ _ _ _ _ c.replay_all.ensures.answer
 
 pub returns-clause-nothing_after_abort : goal.returns-clause-nothing_after_abort
-returns-clause-nothing_after_abort g c = law_of EndsAtAbortRun nothing_after_abort _ _ _ _ _ c.replay_all.ensures.answer
+returns-clause-nothing_after_abort g c = law_of NothingAfterAbortRun nothing_after_abort _ _ _ _ _ c.replay_all.ensures.answer
 
 pub returns-clause-only_struck_aborts : goal.returns-clause-only_struck_aborts
-returns-clause-only_struck_aborts g c = law_of OnlyStruckEndsRun only_struck _ _ _ _ _ c.replay_all.ensures.answer
+returns-clause-only_struck_aborts g c = law_of OnlyStruckAbortsRun only_struck _ _ _ _ _ c.replay_all.ensures.answer
 
 pub returns-clause-all_answered : goal.returns-clause-all_answered
 returns-clause-all_answered g c = law_of AnswersAllRun all_answered _ _ _ _ _ c.replay_all.ensures.answer
