@@ -41,3 +41,4 @@ pub mod ReadingLaws
 pub mod TrustLaws
 pub mod StepsBound
 pub mod NotingLaws
+pub mod CountLaws

@@ -1,5 +1,5 @@
 //! A traversal.
-ghost use Rattle.std.specs.Prelude.{◌≡◌, ℕ, ◌+◌, ◌^◌, ◌<◌, ◌≤◌, IfOk, IfSome, length, true, Some, None};
+ghost use Rattle.std.specs.Prelude.{◌≡◌, ℕ, ◌+◌, ◌-◌, ◌^◌, ◌<◌, ◌≤◌, IfOk, IfSome, length, min, true, Some, None};
 ghost use Rattle.mc_model.specs.Server.{IsValid};
 ghost use Rattle.sei_code.specs.declared.modes.Mode.{Mode};
 ghost use Rattle.sei_fault.specs.Counts.{Counts};
@@ -228,6 +228,9 @@ impl Traversal {
         ensures within { (begin : Counts) → StepsWithin self.old begin (K.counts core.old) → StepsAfter self.new begin (K.counts core.new) result.state }
         // What is noted of the time is the clock's answer, whatever the core answers.
         ensures noted { NotesTime (C.told clock.now) self.old.walk.notes.now self.new.walk.notes.now }
+        // No question is taken back, and no strike; at its last value the count of questions stands still.
+        ensures asked { min (K.counts core.old).asked (2 ^ 128 - 1) ≤ (K.counts core.new).asked }
+        ensures struck { (K.counts core.old).struck ≤ (K.counts core.new).struck }
         // Where the core tells how many strikes can still fall, it still does, and each strike is one less.
         ensures room { (r : ℕ) → (K.counts core.old).room ≡ Some r →
             (s : ℕ) × ((K.counts core.new).room ≡ Some s) × ((K.counts core.new).struck + s ≡ (K.counts core.old).struck + r) }
@@ -279,6 +282,8 @@ impl Traversal {
         ensures rooms { IsTraversal self.new }
         ensures within { (begin : Counts) → StepsWithin self.old begin (K.counts core.old) → StepsAfter self.new begin (K.counts core.new) result.state }
         ensures noted { NotesTime (C.told clock.now) self.old.walk.notes.now self.new.walk.notes.now }
+        ensures asked { min (K.counts core.old).asked (2 ^ 128 - 1) ≤ (K.counts core.new).asked }
+        ensures struck { (K.counts core.old).struck ≤ (K.counts core.new).struck }
         ensures room { (r : ℕ) → (K.counts core.old).room ≡ Some r →
             (s : ℕ) × ((K.counts core.new).room ≡ Some s) × ((K.counts core.new).struck + s ≡ (K.counts core.old).struck + r) }
         ensures on_way { (e : Errand) (begin : Counts) → IsErrand e → TellsAs e.clock (C.told clock.now) →

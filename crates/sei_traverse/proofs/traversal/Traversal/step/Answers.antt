@@ -44,3 +44,15 @@ returns-in-None-clause-room g c = c.step_on.ensures.room
 
 pub returns-in-Some-clause-room : goal.returns-in-Some-clause-room
 returns-in-Some-clause-room g c = c.step_on-in-Some.ensures.room
+
+pub returns-in-None-clause-asked : goal.returns-in-None-clause-asked
+returns-in-None-clause-asked g c = c.step_on.ensures.asked
+
+pub returns-in-Some-clause-asked : goal.returns-in-Some-clause-asked
+returns-in-Some-clause-asked g c = c.step_on-in-Some.ensures.asked
+
+pub returns-in-None-clause-struck : goal.returns-in-None-clause-struck
+returns-in-None-clause-struck g c = c.step_on.ensures.struck
+
+pub returns-in-Some-clause-struck : goal.returns-in-Some-clause-struck
+returns-in-Some-clause-struck g c = c.step_on-in-Some.ensures.struck

@@ -3,6 +3,7 @@ use Rattle.sei_words.specs.Loan.{words_of, bucket_of}
 use Rattle.sei_traverse.specs.Service.{service_of, given_of}
 use Rattle.sei_traverse.specs.State.{TraversalState, IsTraversal, one_more}
 use Rattle.sei_traverse.specs.Step.{turn, turn_tree, TimedTwice}
+use Rattle.sei_traverse.proofs.CountLaws.{asked_turned, struck_turned}
 use Rattle.sei_traverse.proofs.Isolated.{isolates_one}
 use Rattle.sei_traverse.proofs.NotingLaws.{notes_time}
 use Rattle.sei_traverse.proofs.StepsBound.{steps_after_turned, room_left_turned}
@@ -37,6 +38,22 @@ returns-clause-room g c =
     let service = service_of (g.H.Handler.statements c.args.hands.now) (g.H.Handler.call_count c.args.hands.now) (g.H.Handler.parsed c.args.hands.now) (g.H.Handler.rendered c.args.hands.now) in
     let loan = g.L.Lent.loan c.args.lent.now in
     room_left_turned g.K.Core.gives g.K.Core.counts g.met.K.Core.lawful (g.C.Clock.told c.args.clock.now)
+    (λ now later. turn_tree (given_of service c.args.input.now c.args.self.now.geometry (bucket_of loan)) now later c.args.self.now.walk (words_of loan))
+    c.args.core.now c.step-state.new.core (turn c.step-state.new.self (words_of (g.L.Lent.loan c.step-state.new.lent)) c.step-state.result) (returns-clause-turned g c)
+
+pub returns-clause-asked : goal.returns-clause-asked
+returns-clause-asked g c =
+    let service = service_of (g.H.Handler.statements c.args.hands.now) (g.H.Handler.call_count c.args.hands.now) (g.H.Handler.parsed c.args.hands.now) (g.H.Handler.rendered c.args.hands.now) in
+    let loan = g.L.Lent.loan c.args.lent.now in
+    asked_turned g.K.Core.gives g.K.Core.counts g.met.K.Core.lawful (g.C.Clock.told c.args.clock.now)
+    (λ now later. turn_tree (given_of service c.args.input.now c.args.self.now.geometry (bucket_of loan)) now later c.args.self.now.walk (words_of loan))
+    c.args.core.now c.step-state.new.core (turn c.step-state.new.self (words_of (g.L.Lent.loan c.step-state.new.lent)) c.step-state.result) (returns-clause-turned g c)
+
+pub returns-clause-struck : goal.returns-clause-struck
+returns-clause-struck g c =
+    let service = service_of (g.H.Handler.statements c.args.hands.now) (g.H.Handler.call_count c.args.hands.now) (g.H.Handler.parsed c.args.hands.now) (g.H.Handler.rendered c.args.hands.now) in
+    let loan = g.L.Lent.loan c.args.lent.now in
+    struck_turned g.K.Core.gives g.K.Core.counts g.met.K.Core.lawful (g.C.Clock.told c.args.clock.now)
     (λ now later. turn_tree (given_of service c.args.input.now c.args.self.now.geometry (bucket_of loan)) now later c.args.self.now.walk (words_of loan))
     c.args.core.now c.step-state.new.core (turn c.step-state.new.self (words_of (g.L.Lent.loan c.step-state.new.lent)) c.step-state.result) (returns-clause-turned g c)
 
