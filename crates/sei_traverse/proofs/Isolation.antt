@@ -1,5 +1,5 @@
 -- One strike is isolated: what is known of a traversal is known behind each step.
-use Rattle.std.proofs.Common.{◌≡◌, ◌⊎◌, inl, inr, ℕ, suc, ◌+◌, ◌-◌, ◌^◌, ◌<◌, ◌≤◌, List, Option, sym, ◌∙◌, subst, refl, arith}
+use Rattle.std.proofs.Common.{◌≡◌, ◌⊎◌, inl, inr, ℕ, suc, ◌+◌, ◌*◌, ◌-◌, ◌^◌, ◌<◌, ◌≤◌, List, Option, sym, ◌∙◌, subst, refl, arith}
 use Rattle.mc_model.specs.declared.geometry.Geometry.{Geometry}
 use Rattle.sei_fault.specs.Counts.{Counts, Answered}
 use Rattle.sei_fault.specs.declared.place.Phase.{Phase}
@@ -28,7 +28,8 @@ use Rattle.sei_traverse.specs.State.{TraversalState, one_more}
 use Rattle.sei_traverse.specs.Step.{Turn, turn, site_of, turn_tree, TimedTwice}
 use Rattle.sei_traverse.specs.Struck.{IsAimed}
 use Rattle.sei_traverse.specs.Trusted.{IsTrusted}
-use Rattle.sei_traverse.specs.Unstruck.{CleanIn}
+use Rattle.sei_traverse.specs.Unstruck.{CleanIn, IsFinished, first_questions}
+use Rattle.sei_traverse.proofs.Halves.{Halved, sends_half, halves}
 use Rattle.sei_traverse.proofs.HonestTurn.{unwanting}
 use Rattle.sei_traverse.proofs.Likeness.{struck_settles}
 use Rattle.sei_traverse.proofs.Onward.{left_of, given_with, answer_is, still_lent, one_more_at_most}
@@ -72,7 +73,7 @@ data GateIs (w : Walk) (x : Turn) : Type 0 where
   IsRightly : IsRight w → GateIs w x
   IsLost : (IsRight w → ⊥) → StaysLost w.gate.done x → GateIs w x
 
-module _ (e : Errand) (begin c d : Counts) (old new : TraversalState) (loan left : Option BucketWords) (asked more : ℕ)
+module _ (e : Errand) (trusted : IsTrusted e) (begin c d : Counts) (old new : TraversalState) (loan left : Option BucketWords) (asked more : ℕ)
     (place : place_of left ≡ place_of loan) (geometry : new.geometry ≡ e.geometry) (sealed : new.walk.sealed ≡ e.sealed) (steps : new.steps ≤ suc old.steps)
     (grown : d.asked < 2 ^ 128 - 1 → c.asked ≤ d.asked) (counted : c.asked < 2 ^ 128 - 1 → begin.asked + asked ≤ c.asked) (risen : d.asked < 2 ^ 128 - 1 → d.asked ≡ c.asked + more)
     (lends : LendsWanted old.walk loan) (kept : IsNoStore old.walk.place.phase old.walk.place.index → new.walk.wanted ≡ old.walk.wanted)
@@ -91,27 +92,28 @@ module _ (e : Errand) (begin c d : Counts) (old new : TraversalState) (loan left
       omega (arith, so_far, these, le)
 
   -- what is wanted is so, and is wanted once; in both cases of the gate
-  isolates_so : (state : State) (number : ℕ) → number ≤ asked + more → FactsAfter e new (lent_words left) begin d state → Wanted e new.walk lent number new.walk.want →
+  isolates_so : (state : State) (number : ℕ) → number ≤ asked + more → (d.struck ≡ begin.struck → 2 * number ≤ asked + more) → FactsAfter e new (lent_words left) begin d state → Wanted e new.walk lent number new.walk.want →
       ClosesNext e old.walk.gate.done new.walk (IsAborted state) → GateIs old.walk (turn new.walk (words_of left) state) → Isolates e old new loan left begin d new.walk.want state
-  isolates_so state number le goes wanted next (IsRightly right) =
+  isolates_so state number le twice goes wanted next (IsRightly right) =
       let so : Wanted e new.walk (lent_words left) number new.walk.want = subst (λ (l : Option (List ℕ)). Wanted e new.walk l number new.walk.want) lent_is wanted in
       let once : ClosesOnce e old.walk new.walk (IsAborted state) = closes_once e old.walk new.walk right loan left place lends kept (IsAborted state) next in
       record {
         goes = goes;
-        wants = record { asked = number; wanted = so; bucket = wants_bucket e old.walk new.walk right loan left place lends kept (IsAborted state) number once so; counted = enough number le };
+        wants = record { asked = number; wanted = so; bucket = wants_bucket e old.walk new.walk right loan left place lends kept (IsAborted state) number once so; counted = enough number le; twice = λ none. enough (2 * number) (twice none) };
         once = once;
         lends = lends_on e old.walk new.walk right loan left place lends kept state once;
         lost = λ wrong. absurd (wrong right);
         finishes = λ finished. right;
         still = still;
       }
-  isolates_so state number le goes wanted next (IsLost wrong stays) = record {
+  isolates_so state number le twice goes wanted next (IsLost wrong stays) = record {
     goes = goes;
     wants = record {
       asked = number;
       wanted = subst (λ (l : Option (List ℕ)). Wanted e new.walk l number new.walk.want) lent_is wanted;
       bucket = subst (WantsBucket e left) (sym stays.want) tt;
       counted = enough number le;
+      twice = λ none. enough (2 * number) (twice none);
     };
     once = Stays stays.gate stays.want;
     lends = λ went. subst (LendsOn new.walk left) (sym stays.want) (λ right. absurd (stays.lost went right));
@@ -132,7 +134,7 @@ module _ (e : Errand) (begin c d : Counts) (old new : TraversalState) (loan left
       counted = enough number le;
     };
   }
-  struck_after fell number le Finished stands = record { gate = stands.0; asked = number; answered = stands.1; counted = enough number le; unstruck = λ same. absurd (omega (arith, fell, same)) }
+  struck_after fell number le Finished stands = record { gate = stands.0; asked = number; answered = stands.1; counted = enough number le; twice = λ same. absurd (omega (arith, fell, same)); unstruck = λ same. absurd (omega (arith, fell, same)) }
   struck_after fell number le Refused stands = record { gate = stands; cause = inr (omega (arith, fell)) }
   struck_after fell number le (Aborted abort) stands = omega (arith, fell)
 
@@ -153,23 +155,30 @@ module _ (e : Errand) (begin c d : Counts) (old new : TraversalState) (loan left
     };
     struck = λ h. absurd (omega (arith, none, h));
   }
-  clean_after none number le Finished stands = record {
-    gate = stands.0;
-    asked = number;
-    answered = stands.1;
-    counted = enough number le;
-    unstruck = λ same. record { asked = number; finished = settles_end e new.walk new.walk.want new.steps (suc old.steps) number steps stands.2; counted = enough number le };
-  }
+  clean_after none number le Finished stands =
+      let f : IsFinished e new.walk (suc old.steps) number = stands.2 in
+      let n : ℕ = first_questions e f.time f.made in
+      let half : 2 * n ≤ number = f.answered.questions in
+      record {
+        gate = stands.0;
+        asked = n;
+        answered = sends_half e trusted new.walk f.time f.made f.end stands.1.answered.answers.aimed number f.answered;
+        counted = enough n (omega (arith, half, le));
+        twice = λ same. enough (2 * n) (omega (arith, half, le));
+        unstruck = λ same. record { asked = number; finished = settles_end e new.walk new.walk.want new.steps (suc old.steps) number steps f; counted = enough number le };
+      }
   clean_after none number le Refused stands = record { gate = stands.0; cause = inl stands.1 }
   clean_after none number le (Aborted abort) stands = absurd stands
 
   isolates_struck : (state : State) → d.struck ≡ begin.struck + 1 → EndsWell e (StruckStands e) (left_of loan) old.walk.gate.done (asked + more) (turn new.walk (words_of left) state) →
       GateIs old.walk (turn new.walk (words_of left) state) → Isolates e old new loan left begin d new.walk.want state
-  isolates_struck state fell h gate = isolates_so state h.wanting h.wanting_most (struck_after fell h.number h.most state h.state) h.wanted h.once gate
+  isolates_struck state fell h gate = isolates_so state h.wanting h.wanting_most (λ same. absurd (omega (arith, fell, same))) (struck_after fell h.number h.most state h.state) h.wanted h.once gate
 
   isolates_clean : (state : State) → d.struck ≡ begin.struck → EndsWell e (CleanStands e (suc old.steps)) (left_of loan) old.walk.gate.done (asked + more) (turn new.walk (words_of left) state) →
-      GateIs old.walk (turn new.walk (words_of left) state) → Isolates e old new loan left begin d new.walk.want state
-  isolates_clean state none h gate = isolates_so state h.wanting h.wanting_most (clean_after none h.number h.most state h.state) h.wanted h.once gate
+      GateIs old.walk (turn new.walk (words_of left) state) → Halved e new.walk lent asked new.walk.want → Isolates e old new loan left begin d new.walk.want state
+  isolates_clean state none h gate half =
+      let twice : 2 * half.0 ≤ asked = half.1 in
+      isolates_so state half.0 (omega (arith, twice)) (λ same. omega (arith, twice)) (clean_after none h.number h.most state h.state) half.2 h.once gate
 
 -- by the strikes before the step and in it
 module _ (e : Errand) (trusted : IsTrusted e) (laws : (phase : Phase) → (phase ≡ Guard → ⊥) → PhaseLaws e phase) (guard_struck : StruckLaw e Guard) (lost : LostLaw) (both : BothLaw e) (answered : AnsweredLaw e)
@@ -226,13 +235,15 @@ module _ (e : Errand) (trusted : IsTrusted e) (laws : (phase : Phase) → (phase
     nor_now none is risen =
         let well = stays_clean e trusted laws guard_struck lost both answered now later small told small_later told_later loan v refl old.steps asked clean knows (lends gate) in
         let there = subst (λ (y : Turn). EndsWell e (CleanStands e (suc old.steps)) (left_of loan) (phase_number old.walk.place.phase) (asked + questions tree) y) (sym is) well in
-        isolates_clean e begin c d old new loan left asked (questions tree) place (geometry ∙ unstruck.clean.geometry) seal steps_at_most grown unstruck.clean.counted risen lends kept still state none
-        (subst (λ (n : ℕ). EndsWell e (CleanStands e (suc old.steps)) (left_of loan) n (asked + questions tree) x) (sym gate) there) (IsRightly gate)
+        let ends = subst (λ (n : ℕ). EndsWell e (CleanStands e (suc old.steps)) (left_of loan) n (asked + questions tree) x) (sym gate) there in
+        isolates_clean e trusted begin c d old new loan left asked (questions tree) place (geometry ∙ unstruck.clean.geometry) seal steps_at_most grown unstruck.clean.counted risen lends kept still state none ends (IsRightly gate)
+        (halves e trusted old.walk new.walk (lent_words loan) (left_of loan (words_of left)) old.steps asked ends.wanting (IsAborted state) gate
+        (λ seven. let s = still seven gate in (s.0, still_lent loan left (words_of left) place refl ∙ s.1)) unstruck.clean.clean.in_phase unstruck.knows ends.once ends.wanted)
 
     now_struck : d.struck ≡ begin.struck + 1 → (n : ℕ) → StruckRun tree x n → (d.asked < 2 ^ 128 - 1 → d.asked ≡ c.asked + n) → IsIsolated
     now_struck fell n strikes risen =
         let well = strikes_well e trusted laws guard_struck lost both answered now later small told small_later told_later loan v refl old.steps asked clean knows (lends gate) (site_of e.service v) x n strikes in
-        isolates_struck e begin c d old new loan left asked n place (geometry ∙ unstruck.clean.geometry) seal steps_at_most grown unstruck.clean.counted risen lends kept still state fell
+        isolates_struck e trusted begin c d old new loan left asked n place (geometry ∙ unstruck.clean.geometry) seal steps_at_most grown unstruck.clean.counted risen lends kept still state fell
         (subst (λ (m : ℕ). EndsWell e (StruckStands e) (left_of loan) m (asked + n) x) (sym gate) well) (IsRightly gate)
 
   -- it was struck before
@@ -240,7 +251,7 @@ module _ (e : Errand) (trusted : IsTrusted e) (laws : (phase : Phase) → (phase
   was_struck struck fell is risen =
       let case = settles_case e old.walk (lent_words loan) struck.asked struck.case in
       let well = stays_well e laws lost now later small told loan v refl struck.asked struck.sealed case lends (site_of e.service v) in
-      isolates_struck e begin c d old new loan left struck.asked (questions tree) place (geometry ∙ struck.geometry) (sealed ∙ struck.sealed) steps_at_most grown struck.counted risen lends kept still state fell
+      isolates_struck e trusted begin c d old new loan left struck.asked (questions tree) place (geometry ∙ struck.geometry) (sealed ∙ struck.sealed) steps_at_most grown struck.counted risen lends kept still state fell
       (subst (λ (y : Turn). EndsWell e (StruckStands e) (left_of loan) old.walk.gate.done (struck.asked + questions tree) y) (sym is) well) (by_gate case)
     where
       by_gate : StruckCase e v (lent_words loan) struck.asked → GateIs old.walk x

@@ -25,6 +25,7 @@ pub mod StruckSteps
 pub mod EdgeSteps
 pub mod LostSteps
 pub mod Lending
+pub mod Halves
 pub mod Isolation
 pub mod FactsLaws
 pub mod CleanAnswers

@@ -1,5 +1,5 @@
 -- What is known of a traversal that was struck at most once since it began, at each of its steps.
-use Rattle.std.specs.Prelude.{◌≡◌, ◌≢◌, ℕ, ◌+◌, ◌-◌, ◌^◌, ◌<◌, ◌≤◌, ◌⊎◌, false, List, [], Option, Some, None, ⊤}
+use Rattle.std.specs.Prelude.{◌≡◌, ◌≢◌, ℕ, ◌+◌, ◌*◌, ◌-◌, ◌^◌, ◌<◌, ◌≤◌, ◌⊎◌, false, List, [], Option, Some, None, ⊤}
 use Rattle.sei_fault.specs.Counts.{Counts}
 use Rattle.sei_fault.specs.Phases.{phase_number}
 use Rattle.sei_fault.specs.declared.place.Phase.{Phase}
@@ -115,20 +115,22 @@ abbrev pub IsAborted : State → Type 0
 IsAborted (Aborted abort) = ⊤
 IsAborted state = ⊥
 
--- what must hold where it wants that, holds
+-- what must hold where it wants that, holds; so many questions were asked at least, and twice as many where nothing struck
 pub record Wants (e : Errand) (t : TraversalState) (left : Option BucketWords) (begin now : Counts) (want : Want) : Type 0 where
   pub asked : ℕ
   pub wanted : Wanted e t.walk (lent_words left) asked want
   pub bucket : WantsBucket e left want
   pub counted : now.asked < 2 ^ 128 - 1 → begin.asked + asked ≤ now.asked
+  pub twice : now.struck ≡ begin.struck → now.asked < 2 ^ 128 - 1 → begin.asked + 2 * asked ≤ now.asked
 
 -- it is finished: all phases are closed, so Enter and Give were wanted, and Send where the reply is not empty; and without
--- a strike it is at its clean end
+-- a strike twice as many questions were asked, and it is at its clean end
 pub record IsAtEnd (e : Errand) (t : TraversalState) (begin now : Counts) : Type 0 where
   pub gate : t.walk.gate.done ≡ 11
   pub asked : ℕ
   pub answered : SendStruck e t.walk asked
   pub counted : now.asked < 2 ^ 128 - 1 → begin.asked + asked ≤ now.asked
+  pub twice : now.struck ≡ begin.struck → now.asked < 2 ^ 128 - 1 → begin.asked + 2 * asked ≤ now.asked
   pub unstruck : now.struck ≡ begin.struck → IsCleanEnd e t begin now
 
 -- the input does not pass the tests of Guard
