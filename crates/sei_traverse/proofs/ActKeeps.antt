@@ -6,10 +6,10 @@ use Rattle.std.specs.declared.result.Result.TheVariants.{Ok, Err}
 use Rattle.sei_fault.specs.declared.cause.AbortCause.{AbortCause}
 use Rattle.sei_fault.specs.declared.cause.AbortCause.TheVariants.{Gate, Range, Differs, Reply as Replies, Wire as Wires}
 use Rattle.sei_fault.specs.declared.place.Phase.{Phase}
-use Rattle.sei_fault.specs.declared.place.Phase.TheVariants.{Guard, Take, First, Restore, Second, Compare, Verify, Enter, Give, Send, Done as Last}
+use Rattle.sei_fault.specs.declared.place.Phase.TheVariants.{Guard, Take, First, Restore, Second, Compare, Verify, Enter, Give, Send, Done}
 use Rattle.sei_fault.specs.declared.place.Place.{Place}
 use Rattle.sei_fault.specs.Tree.{Tree, Always, bound, honest}
-use Rattle.sei_fault.specs.Tree.Tree.{Done, Ask}
+use Rattle.sei_fault.specs.Tree.Tree.{Done as Ended, Ask}
 use Rattle.sei_fault.proofs.Runs.{always_honest}
 use Rattle.sei_gate.specs.Closing.{risen}
 use Rattle.sei_stmt.specs.Machine.{Outcome}
@@ -34,7 +34,7 @@ use Rattle.sei_traverse.proofs.Branches.{other}
 -- Pieces of work.
 
 always_bound : {A B : Type 0} (P : B → Type 0) (t : Tree A) (f : A → Tree B) → ((x : A) → Always P (f x)) → Always P (bound t f)
-always_bound P (Done r) f h = h r
+always_bound P (Ended r) f h = h r
 always_bound P (Ask q k) f h = λ a. always_bound P (k a) f h
 
 if_always : {R : Type 0} (P : R → Type 0) (b : Bool) (s t : Tree R) → Always P s → Always P t → Always P (if b then s else t)
@@ -177,8 +177,8 @@ module _ (g : Given) (now : ℕ) (w : Walk) (words : List ℕ) where
       (λ same. if_always (Keeps w) same (closes Verify w words Nothing (at Enter 0)) (ends w words (Aborts Wires)) (closes_here Verify Nothing (at Enter 0)) (here words (Aborts Wires)))))
   keeps Enter index n = closes_here Enter WantEnter (at Give 0)
   keeps Give index n = closes_here Give WantGive (at Send 0)
-  keeps Send index n = closes_here Send (send_want (reply_of w)) (at Last 0)
-  keeps Last index n = closes_here Last Nothing (at Last 1)
+  keeps Send index n = closes_here Send (send_want (reply_of w)) (at Done 0)
+  keeps Done index n = closes_here Done Nothing (at Done 1)
 
   -- an honest act leaves the place as it is, and opens no phase
   pub honestly_kept : (phase : Phase) (index : ℕ) → HonestlyKeeps w (honest (act_in g now phase index w words))
@@ -193,7 +193,7 @@ module _ (g : Given) (now : ℕ) (w : Walk) (words : List ℕ) where
   honestly_kept Enter index = without (always_honest (Keeps w) (act_in g now Enter index w words) (keeps Enter index tt))
   honestly_kept Give index = without (always_honest (Keeps w) (act_in g now Give index w words) (keeps Give index tt))
   honestly_kept Send index = without (always_honest (Keeps w) (act_in g now Send index w words) (keeps Send index tt))
-  honestly_kept Last index = without (always_honest (Keeps w) (act_in g now Last index w words) (keeps Last index tt))
+  honestly_kept Done index = without (always_honest (Keeps w) (act_in g now Done index w words) (keeps Done index tt))
 
 -- The acts that only close their phase leave all but the gate and the want.
 

@@ -8,7 +8,7 @@ use Rattle.sei_fault.specs.declared.cause.AbortCause.TheVariants.{Range}
 use Rattle.sei_fault.specs.declared.place.Act.{Act}
 use Rattle.sei_fault.specs.declared.place.Act.TheVariants.{Plain}
 use Rattle.sei_fault.specs.declared.place.Phase.{Phase}
-use Rattle.sei_fault.specs.declared.place.Phase.TheVariants.{Guard, Take, First, Enter, Give, Send, Done as Last}
+use Rattle.sei_fault.specs.declared.place.Phase.TheVariants.{Guard, Take, First, Enter, Give, Send, Done}
 use Rattle.sei_fault.specs.declared.place.Place.{Place}
 use Rattle.sei_fault.specs.Phases.{phase_number}
 use Rattle.sei_fault.specs.Tree.{honest}
@@ -309,18 +309,18 @@ module _ (e : Errand) (now : ℕ) (w : Walk) (words : List ℕ) (steps asked : �
         site = plain_first w.place.index i.index;
         walk = record (closed_walk w) { want = want };
         left = words;
-        to = at Last 0;
+        to = at Done 0;
         next = refl;
-        acts = closes_then Send w words (λ v. ends (record v { want = want }) words (Leads (at Last 0))) i.is.gate;
+        acts = closes_then Send w words (λ v. ends (record v { want = want }) words (Leads (at Done 0))) i.is.gate;
         want = refl;
         more = 0;
         asks = omega arith;
         clean = record {
-          is = is_next e w want (at Last 0) Send Last refl i.is;
+          is = is_next e w want (at Done 0) Send Done refl i.is;
           time = i.time;
           made = i.made;
           end = i.end;
-          answered = subst (λ (q : ℕ). IsAnswered e (behind w want (at Last 0)) i.time i.made i.end q) (sym (none_more asked)) (answered_stays e w want (at Last 0) i.time i.made i.end asked i.answered);
+          answered = subst (λ (q : ℕ). IsAnswered e (behind w want (at Done 0)) i.time i.made i.end q) (sym (none_more asked)) (answered_stays e w want (at Done 0) i.time i.made i.end asked i.answered);
           index = refl;
           number = omega (arith, i.number);
         };
@@ -332,19 +332,19 @@ pub record Finishes (e : Errand) (g : Given) (now : ℕ) (phase : Phase) (w : Wa
   pub site : site_in g.service w phase w.place.index ≡ Some act
   pub walk : Walk
   pub left : List ℕ
-  pub acts : honest (act_in g now phase w.place.index w words) ≡ acted walk left (Leads (at Last 1))
+  pub acts : honest (act_in g now phase w.place.index w words) ≡ acted walk left (Leads (at Done 1))
   pub want : walk.want ≡ Nothing
-  pub finished : IsFinished e (record walk { place = at Last 1 }) (suc steps) asked
+  pub finished : IsFinished e (record walk { place = at Done 1 }) (suc steps) asked
 
 -- Done leads to the end
 pub done_on : (e : Errand) (now : ℕ) (bucket : Option ℕ) (w : Walk) (words : List ℕ) (steps asked : ℕ) → InDone e w steps asked →
-    Finishes e (given_of e.service e.input e.geometry bucket) now Last w words steps asked
+    Finishes e (given_of e.service e.input e.geometry bucket) now Done w words steps asked
 done_on e now bucket w words steps asked i = record {
   act = Plain;
   site = plain_first w.place.index i.index;
   walk = record (closed_walk w) { want = Nothing };
   left = words;
-  acts = closes_then Last w words (λ v. ends (record v { want = Nothing }) words (Leads (at Last 1))) i.is.gate;
+  acts = closes_then Done w words (λ v. ends (record v { want = Nothing }) words (Leads (at Done 1))) i.is.gate;
   want = refl;
   finished = record {
     place = refl;
@@ -352,7 +352,7 @@ done_on e now bucket w words steps asked i = record {
     time = i.time;
     made = i.made;
     end = i.end;
-    answered = answered_stays e w Nothing (at Last 1) i.time i.made i.end asked i.answered;
+    answered = answered_stays e w Nothing (at Done 1) i.time i.made i.end asked i.answered;
     number = omega (arith, i.number);
   };
 }

@@ -2,13 +2,13 @@
 use Rattle.std.proofs.Common.{◌≡◌, ℕ, ◌≤◌, List, Option, Some, None, sym, ◌∙◌, subst, refl, arith}
 use Rattle.sei_fault.specs.declared.place.Act.{Act}
 use Rattle.sei_fault.specs.declared.place.Phase.{Phase}
-use Rattle.sei_fault.specs.declared.place.Phase.TheVariants.{Guard, Take, First, Restore, Second, Compare, Verify, Enter, Give, Send, Done as Last}
+use Rattle.sei_fault.specs.declared.place.Phase.TheVariants.{Guard, Take, First, Restore, Second, Compare, Verify, Enter, Give, Send, Done}
 use Rattle.sei_fault.specs.declared.place.Place.{Place}
 use Rattle.sei_fault.specs.declared.place.Times.{Times}
 use Rattle.sei_fault.specs.declared.place.Times.TheVariants.{Once, Skip, Twice}
 use Rattle.sei_fault.specs.Phases.{phase_number}
 use Rattle.sei_fault.specs.Tree.{Tree, Always, bound}
-use Rattle.sei_fault.specs.Tree.Tree.{Done, Ask}
+use Rattle.sei_fault.specs.Tree.Tree.{Done as Ended, Ask}
 use Rattle.sei_gate.specs.Closing.{risen}
 use Rattle.sei_traverse.specs.declared.turned.Want.{Want}
 use Rattle.sei_traverse.specs.declared.turned.Want.TheVariants.{Nothing, Enter as WantEnter, Give as WantGive}
@@ -26,11 +26,11 @@ use Rattle.sei_traverse.proofs.ActKeeps.{IsNoStore, Keeps, keeps, closing_always
 
 -- behind ends of which something is known
 always_when : {A B : Type 0} (Q : A → Type 0) (P : B → Type 0) (t : Tree A) (f : A → Tree B) → Always Q t → ((x : A) → Q x → Always P (f x)) → Always P (bound t f)
-always_when Q P (Done r) f q h = h r q
+always_when Q P (Ended r) f q h = h r q
 always_when Q P (Ask question k) f q h = λ a. always_when Q P (k a) f (q a) h
 
 always_map : {A : Type 0} (Q P : A → Type 0) (t : Tree A) → Always Q t → ((x : A) → Q x → P x) → Always P t
-always_map Q P (Done r) q h = h r q
+always_map Q P (Ended r) q h = h r q
 always_map Q P (Ask question k) q h = λ a. always_map Q P (k a) (q a) h
 
 -- A step keeps what each act of its place keeps, and each move.
@@ -111,8 +111,8 @@ module _ (g : Given) (clock : ℕ) (w : Walk) (words : List ℕ) (place : Place)
   edge_act Verify index le = absurd (omega (arith, le))
   edge_act Enter index le = closes_untouched Enter WantEnter (at Give 0)
   edge_act Give index le = closes_untouched Give WantGive (at Send 0)
-  edge_act Send index le = closes_untouched Send (send_want (reply_of u)) (at Last 0)
-  edge_act Last index le = closes_untouched Last Nothing (at Last 1)
+  edge_act Send index le = closes_untouched Send (send_want (reply_of u)) (at Done 0)
+  edge_act Done index le = closes_untouched Done Nothing (at Done 1)
 
 -- and so a step there leaves the rest as it is
 pub edge_turn : (g : Given) (now later : ℕ) (w : Walk) (words : List ℕ) → 7 ≤ phase_number w.place.phase → Always (λ (x : Turn). Untouched w words x.walk x.words) (turn_tree g now later w words)

@@ -1,10 +1,8 @@
 -- Without a strike, twice as many questions were asked as the honest run asks of which Enter, Give and Send speak.
 use Rattle.std.proofs.Common.{◌≡◌, ℕ, ◌*◌, ◌≤◌, List, [], ◌∷◌, Option, refl, sym, ap, ◌∙◌, subst, arith}
-use Rattle.std.specs.Prelude.{⊤, ◌≢◌}
 use Rattle.sei_fault.specs.Phases.{phase_number}
 use Rattle.sei_fault.specs.declared.place.Phase.{Phase}
-use Rattle.sei_fault.specs.declared.place.Phase.TheVariants.{Guard, Take, First, Restore, Second, Compare, Verify, Enter, Give, Send, Done as Last}
-use Rattle.sei_log.specs.declared.notes.Notes.{Notes}
+use Rattle.sei_fault.specs.declared.place.Phase.TheVariants.{Guard, Take, First, Restore, Second, Compare, Verify, Enter, Give, Send, Done}
 use Rattle.sei_pass.specs.State.{PassState}
 use Rattle.sei_stmt.specs.Machine.{Machine}
 use Rattle.sei_traverse.specs.declared.turned.Want.{Want}
@@ -85,7 +83,7 @@ module _ (e : Errand) (trusted : IsTrusted e) (w v : Walk) (lent left : Option (
   closing_half Send still i knows wanted =
       let on = still (omega arith) in
       send_half e trusted w v on.0 lent left on.1 knows i.time i.made i.end asked i.answered (reply_of v) number wanted
-  closing_half Last still i knows wanted = (0, omega arith, tt)
+  closing_half Done still i knows wanted = (0, omega arith, tt)
 
   -- what a step wants without a strike is so with half of the questions that were asked before it
   pub halves : (ended : Type 0) → w.gate.done ≡ phase_number w.place.phase → (7 ≤ w.gate.done → IsLikeWalk w v × (left ≡ lent)) → CleanIn e w lent steps asked w.place.phase → Knows e w w.place.phase →

@@ -4,7 +4,7 @@ use Rattle.std.specs.Prelude.{◌==◌, ◌&&◌, if◌then◌else◌}
 use Rattle.sei_fault.specs.Counts.{Counts}
 use Rattle.sei_fault.specs.declared.place.Act.{Act}
 use Rattle.sei_fault.specs.declared.place.Phase.{Phase}
-use Rattle.sei_fault.specs.declared.place.Phase.TheVariants.{Guard, Take, First, Restore, Second, Compare, Verify, Enter, Give, Send, Done as Last}
+use Rattle.sei_fault.specs.declared.place.Phase.TheVariants.{Guard, Take, First, Restore, Second, Compare, Verify, Enter, Give, Send, Done}
 use Rattle.sei_fault.specs.declared.place.Place.{Place}
 use Rattle.sei_fault.specs.Phases.{phase_number}
 use Rattle.sei_fault.specs.Strikes.{Split}
@@ -35,17 +35,17 @@ no_end e w lent steps asked Verify i = refl
 no_end e w lent steps asked Enter i = refl
 no_end e w lent steps asked Give i = refl
 no_end e w lent steps asked Send i = refl
-no_end e w lent steps asked Last i = ap (λ (index : ℕ). phase_number Last == 10 && index == 1) i.index
+no_end e w lent steps asked Done i = ap (λ (index : ℕ). phase_number Done == 10 && index == 1) i.index
 
 -- a traversal that is clean stands at no end
 pub clean_no_end : (e : Errand) (w : Walk) (lent : Option (List ℕ)) (steps asked : ℕ) → CleanIn e w lent steps asked w.place.phase → is_end w.place ≡ false
 clean_no_end e w lent steps asked i = no_end e w lent steps asked w.place.phase i
 
 arrives : (phase : Phase) (p : Place) (done : ℕ) → is_end p ≡ false → arrival phase p done ≡ Went
-arrives phase p done h = ap (λ (b : Bool). if b then arrival phase (at Last 1) done else Went) h
+arrives phase p done h = ap (λ (b : Bool). if b then arrival phase (at Done 1) done else Went) h
 
-arrives_last : (phase : Phase) (done : ℕ) → done ≡ 11 → arrival phase (at Last 1) done ≡ Finished
-arrives_last phase done h = ap (arrival phase (at Last 1)) h
+arrives_last : (phase : Phase) (done : ℕ) → done ≡ 11 → arrival phase (at Done 1) done ≡ Finished
+arrives_last phase done h = ap (arrival phase (at Done 1)) h
 
 -- where nothing struck, a run is the honest one
 unstruck : {R : Type 0} (x clean : R) (once : Type 0) (n : ℕ) (c d : Counts) → d.struck ≡ c.struck → Split x clean once n c d → (x ≡ clean) × (d.asked < 2 ^ 128 - 1 → d.asked ≡ c.asked + n)
@@ -93,10 +93,10 @@ module _ (g : Given) (now later : ℕ) (w : Walk) (words : List ℕ) where
 
   -- a step whose act finishes leads to the end
   pub finish_turn : (e : Errand) (steps asked : ℕ) (a : Finishes e g now w.place.phase (unwanting w) words steps asked) →
-      honest (turn_tree g now later w words) ≡ turn (record a.walk { place = at Last 1 }) a.left Finished
+      honest (turn_tree g now later w words) ≡ turn (record a.walk { place = at Done 1 }) a.left Finished
   finish_turn e steps asked a =
-      (leads_turn a.act a.walk a.left (at Last 1) a.site a.acts).0
-      ∙ ap (turn (record a.walk { place = at Last 1 }) a.left) (arrives_last a.walk.place.phase a.walk.gate.done a.finished.gate)
+      (leads_turn a.act a.walk a.left (at Done 1) a.site a.acts).0
+      ∙ ap (turn (record a.walk { place = at Done 1 }) a.left) (arrives_last a.walk.place.phase a.walk.gate.done a.finished.gate)
 
   -- a run of a step in which nothing struck is the honest one, and its questions were counted
   pub clean_run : (c d : Counts) (x : Turn) → Runs any_core (turn_tree g now later w words) c d x → d.struck ≡ c.struck →

@@ -2,7 +2,7 @@
 use Rattle.std.proofs.Common.{◌≡◌, ℕ, ◌+◌, ◌≤◌, List, Option, refl, ap, sym, ◌∙◌, arith}
 use Rattle.sei_fault.specs.Counts.{Counts, Answered}
 use Rattle.sei_fault.specs.declared.place.Phase.{Phase}
-use Rattle.sei_fault.specs.declared.place.Phase.TheVariants.{Guard, Take, First, Restore, Second, Compare, Verify, Enter, Give, Send, Done as Last}
+use Rattle.sei_fault.specs.declared.place.Phase.TheVariants.{Guard, Take, First, Restore, Second, Compare, Verify, Enter, Give, Send, Done}
 use Rattle.sei_fault.specs.Question.{Question, Answer, honestly_to}
 use Rattle.sei_fault.specs.Tree.{honest}
 use Rattle.sei_gate.specs.declared.Gate.{Gate}
@@ -45,7 +45,7 @@ phase_laws e trusted Verify n = verify_laws e trusted
 phase_laws e trusted Enter n = enter_laws e trusted
 phase_laws e trusted Give n = give_laws e trusted
 phase_laws e trusted Send n = send_laws e trusted
-phase_laws e trusted Last n = done_laws e trusted
+phase_laws e trusted Done n = done_laws e trusted
 
 ends_in : (phase : Phase) (ending : Ending) → LostEnds phase ending → StaysIn phase ending
 ends_in phase (Leads to) h = h

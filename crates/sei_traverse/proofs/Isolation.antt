@@ -3,7 +3,7 @@ use Rattle.std.proofs.Common.{◌≡◌, ◌⊎◌, inl, inr, ℕ, suc, ◌+◌,
 use Rattle.mc_model.specs.declared.geometry.Geometry.{Geometry}
 use Rattle.sei_fault.specs.Counts.{Counts, Answered}
 use Rattle.sei_fault.specs.declared.place.Phase.{Phase}
-use Rattle.sei_fault.specs.declared.place.Phase.TheVariants.{Guard, Take, First, Restore, Second, Compare, Verify, Enter, Give, Send, Done as Last}
+use Rattle.sei_fault.specs.declared.place.Phase.TheVariants.{Guard, Take, First, Restore, Second, Compare, Verify, Enter, Give, Send, Done}
 use Rattle.sei_fault.specs.Phases.{phase_number}
 use Rattle.sei_fault.specs.Question.{Question, Answer, honestly_to}
 use Rattle.sei_fault.specs.StruckRuns.{StruckRun}
@@ -60,7 +60,7 @@ settles_known e w Verify k = settles_aimed e w k
 settles_known e w Enter k = settles_aimed e w k
 settles_known e w Give k = settles_aimed e w k
 settles_known e w Send k = settles_aimed e w k
-settles_known e w Last k = settles_aimed e w k
+settles_known e w Done k = settles_aimed e w k
 
 settles_case : (e : Errand) (w : Walk) (lent : Option (List ℕ)) (asked : ℕ) → StruckCase e w lent asked → StruckCase e (unwanting w) lent asked
 settles_case e w lent asked (Right gate stands) = Right gate (struck_settles e w Nothing asked lent w.place.phase stands)

@@ -1,7 +1,7 @@
 -- A caller who follows the wants lends what the next step asks for.
 use Rattle.std.proofs.Common.{◌≡◌, ℕ, ◌+◌, List, [], ◌∷◌, Option, Some, None, sym, ap, ◌∙◌, subst, refl, arith}
 use Rattle.sei_fault.specs.declared.place.Phase.{Phase}
-use Rattle.sei_fault.specs.declared.place.Phase.TheVariants.{Guard, Take, First, Restore, Second, Compare, Verify, Enter, Give, Send, Done as Last}
+use Rattle.sei_fault.specs.declared.place.Phase.TheVariants.{Guard, Take, First, Restore, Second, Compare, Verify, Enter, Give, Send, Done}
 use Rattle.sei_fault.specs.Phases.{phase_number}
 use Rattle.sei_words.specs.Loan.{words_of, place_of, Place as LentPlace}
 use Rattle.sei_words.specs.Words.{BucketWords}
@@ -45,7 +45,7 @@ lends_left : (p : Phase) (wanted : ℕ) (loan left : Option BucketWords) → pla
 lends_left Guard wanted loan left place h = none_left loan left place h
 lends_left Take wanted loan left place h = none_left loan left place h
 lends_left Send wanted loan left place h = none_left loan left place h
-lends_left Last wanted loan left place h = none_left loan left place h
+lends_left Done wanted loan left place h = none_left loan left place h
 lends_left First wanted loan left place h = bucket_left wanted loan left place h
 lends_left Restore wanted loan left place h = bucket_left wanted loan left place h
 lends_left Second wanted loan left place h = bucket_left wanted loan left place h
@@ -90,8 +90,8 @@ module _ (e : Errand) (old new : Walk) (right : IsRight old) (loan left : Option
   closing_lends Verify h gate = next_lends Enter h gate
   closing_lends Enter h gate = next_lends Give h gate
   closing_lends Give h gate = λ here. subst (λ (r : Phase). LendsIn new.wanted r None) (same_phase Send new.place.phase (sym gate ∙ here)) refl
-  closing_lends Send h gate = sends_on (reply_of new) (next_lends Last h gate)
-  closing_lends Last h gate = λ here. let small = small_number new.place.phase in absurd (omega (arith, small, here, gate))
+  closing_lends Send h gate = sends_on (reply_of new) (next_lends Done h gate)
+  closing_lends Done h gate = λ here. let small = small_number new.place.phase in absurd (omega (arith, small, here, gate))
 
   pub lends_on : (state : State) → ClosesOnce e old new (IsAborted state) → state ≡ Went → LendsOn new left new.want
   lends_on state (Stays gate none) went = subst (LendsOn new left) (sym none) (next_lends old.place.phase still_lends (gate ∙ right))
@@ -120,7 +120,7 @@ module _ (e : Errand) (old new : Walk) (right : IsRight old) (loan left : Option
   closing_bucket Enter asked h wanted = of_answers left asked h wanted
   closing_bucket Give asked h wanted = of_answers left asked h wanted
   closing_bucket Send asked h wanted = sends_bucket (reply_of new)
-  closing_bucket Last asked h wanted = tt
+  closing_bucket Done asked h wanted = tt
 
   pub wants_bucket : (ended : Type 0) (asked : ℕ) → ClosesOnce e old new ended → Wanted e new (lent_words left) asked new.want → WantsBucket e left new.want
   wants_bucket ended asked (Stays gate none) wanted = subst (WantsBucket e left) (sym none) tt

@@ -1,7 +1,7 @@
 -- What is known of a walk that was struck is known of one that differs in what it does not speak of.
 use Rattle.std.proofs.Common.{ℕ, List, Option, Some, None, sym, ap, ◌∙◌, refl}
 use Rattle.sei_fault.specs.declared.place.Phase.{Phase}
-use Rattle.sei_fault.specs.declared.place.Phase.TheVariants.{Guard, Take, First, Restore, Second, Compare, Verify, Enter, Give, Send, Done as Last}
+use Rattle.sei_fault.specs.declared.place.Phase.TheVariants.{Guard, Take, First, Restore, Second, Compare, Verify, Enter, Give, Send, Done}
 use Rattle.sei_log.specs.declared.notes.Notes.{Notes}
 use Rattle.sei_stmt.specs.Machine.{Machine, Outcome}
 use Rattle.sei_pass.specs.State.{PassState}
@@ -154,4 +154,4 @@ module _ (e : Errand) (w : Walk) (n : Want) (asked : ℕ) where
   struck_settles lent Enter h = on_map lent (λ words. EnterStruck e w words asked) (λ words. EnterStruck e (wanting w n) words asked) (λ words. enter_like e w (wanting w n) alike words asked) h
   struck_settles lent Give h = on_map lent (λ words. EnterStruck e w words asked) (λ words. EnterStruck e (wanting w n) words asked) (λ words. enter_like e w (wanting w n) alike words asked) h
   struck_settles lent Send h = send_like e w (wanting w n) alike asked h
-  struck_settles lent Last h = send_like e w (wanting w n) alike asked h
+  struck_settles lent Done h = send_like e w (wanting w n) alike asked h

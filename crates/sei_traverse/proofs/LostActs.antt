@@ -7,7 +7,7 @@ use Rattle.sei_compare.specs.Comparing.{same_change, entry_tree, same_reply, cod
 use Rattle.sei_fault.specs.declared.cause.AbortCause.{AbortCause}
 use Rattle.sei_fault.specs.declared.cause.AbortCause.TheVariants.{Differs, Reply as Replies, Wire as Wires}
 use Rattle.sei_fault.specs.declared.place.Phase.{Phase}
-use Rattle.sei_fault.specs.declared.place.Phase.TheVariants.{Guard, Take, First, Restore, Second, Compare, Verify, Enter, Give, Send, Done as Last}
+use Rattle.sei_fault.specs.declared.place.Phase.TheVariants.{Guard, Take, First, Restore, Second, Compare, Verify, Enter, Give, Send, Done}
 use Rattle.sei_fault.specs.Phases.{phase_number}
 use Rattle.sei_fault.specs.Tree.{Tree, honest, bound}
 use Rattle.sei_fault.proofs.Bound.{honest_bound}
@@ -182,5 +182,5 @@ lost_on g now Compare w words lost fit = lost_compare g now w words lost
 lost_on g now Verify w words lost fit = lost_verify g now w words lost
 lost_on g now Enter w words lost fit = lost_closing Enter w w (itself w) words (λ v. ends (record v { want = WantEnter }) words (Leads (at Give 0))) lost
 lost_on g now Give w words lost fit = lost_closing Give w w (itself w) words (λ v. ends (record v { want = WantGive }) words (Leads (at Send 0))) lost
-lost_on g now Send w words lost fit = lost_closing Send w w (itself w) words (λ v. ends (record v { want = send_want (reply_of w) }) words (Leads (at Last 0))) lost
-lost_on g now Last w words lost fit = lost_closing Last w w (itself w) words (λ v. ends (record v { want = Nothing }) words (Leads (at Last 1))) lost
+lost_on g now Send w words lost fit = lost_closing Send w w (itself w) words (λ v. ends (record v { want = send_want (reply_of w) }) words (Leads (at Done 0))) lost
+lost_on g now Done w words lost fit = lost_closing Done w w (itself w) words (λ v. ends (record v { want = Nothing }) words (Leads (at Done 1))) lost

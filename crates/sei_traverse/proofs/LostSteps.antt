@@ -5,7 +5,7 @@ use Rattle.sei_fault.specs.declared.cause.AbortCause.TheVariants.{Gate}
 use Rattle.sei_fault.specs.declared.place.Place.{Place}
 use Rattle.sei_fault.specs.declared.place.Act.{Act}
 use Rattle.sei_fault.specs.declared.place.Phase.{Phase}
-use Rattle.sei_fault.specs.declared.place.Phase.TheVariants.{Guard, Done as Last}
+use Rattle.sei_fault.specs.declared.place.Phase.TheVariants.{Guard, Done}
 use Rattle.sei_fault.specs.Phases.{phase_number}
 use Rattle.sei_fault.specs.Tree.{honest}
 use Rattle.sei_fault.proofs.Bound.{honest_bound}
@@ -41,13 +41,13 @@ never_finished phase to done never = by_end (is_end to) refl
     by_end false h finished = let z : ⊥ = cc in z
 
 -- from where its act ended; in the last phase it leads nowhere
-lost_from : (done : ℕ) (p : Phase) (u : Walk) (words : List ℕ) (ending : Ending) → u.want ≡ Nothing → u.gate.done ≡ done → done ≢ phase_number p → StaysIn p ending → (p ≡ Last → (to : Place) → ending ≡ Leads to → ⊥) →
+lost_from : (done : ℕ) (p : Phase) (u : Walk) (words : List ℕ) (ending : Ending) → u.want ≡ Nothing → u.gate.done ≡ done → done ≢ phase_number p → StaysIn p ending → (p ≡ Done → (to : Place) → ending ≡ Leads to → ⊥) →
     StaysLost done (honest (goes_from u words ending))
 lost_from done p u words (Leads to) none gate wrong stays never = record {
   want = none;
   gate = gate;
   lost = λ went same. wrong (sym gate ∙ same ∙ ap phase_number stays);
-  unfinished = never_finished u.place.phase to u.gate.done (λ end. never (same_phase p Last (ap phase_number (sym stays) ∙ end_number to end)) to refl);
+  unfinished = never_finished u.place.phase to u.gate.done (λ end. never (same_phase p Done (ap phase_number (sym stays) ∙ end_number to end)) to refl);
 }
 lost_from done p u words Refuses none gate wrong stays never = absurd stays
 lost_from done p u words (Aborts cause) none gate wrong stays never =

@@ -12,7 +12,7 @@ use Rattle.sei_fault.specs.declared.cause.AbortCause.TheVariants.{Code, LogFull,
 use Rattle.sei_fault.specs.declared.cause.AbortCause.TheVariants.{Bucket as NoBucket, Notes as NoNotes, Range as OutOfRange, Differs as Differing}
 use Rattle.sei_fault.specs.declared.place.Act.{Act}
 use Rattle.sei_fault.specs.declared.place.Phase.{Phase}
-use Rattle.sei_fault.specs.declared.place.Phase.TheVariants.{Guard, Take, First, Restore, Second, Compare, Verify, Enter, Give, Send, Done as Last}
+use Rattle.sei_fault.specs.declared.place.Phase.TheVariants.{Guard, Take, First, Restore, Second, Compare, Verify, Enter, Give, Send, Done}
 use Rattle.sei_fault.specs.declared.place.Place.{Place}
 use Rattle.sei_fault.specs.declared.place.Times.{Times}
 use Rattle.sei_fault.specs.declared.place.Times.TheVariants.{Once, Skip, Twice}
@@ -308,8 +308,8 @@ module _ (told : Option ℕ) where
     notes_act g now Verify index words answer = notes_verify index words (nat_lt index (length w.second_log.items))
     notes_act g now Enter index words answer = notes_closes Enter w words WantEnter (at Give 0) (Same refl)
     notes_act g now Give index words answer = notes_closes Give w words WantGive (at Send 0) (Same refl)
-    notes_act g now Send index words answer = notes_closes Send w words (send_want (reply_of w)) (at Last 0) (Same refl)
-    notes_act g now Last index words answer = notes_closes Last w words Nothing (at Last 1) (Same refl)
+    notes_act g now Send index words answer = notes_closes Send w words (send_want (reply_of w)) (at Done 0) (Same refl)
+    notes_act g now Done index words answer = notes_closes Done w words Nothing (at Done 1) (Same refl)
 
   -- a whole step
 

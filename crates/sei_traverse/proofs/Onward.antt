@@ -5,7 +5,7 @@ use Rattle.sei_fault.specs.Counts.{Counts, Answered}
 use Rattle.sei_fault.specs.declared.place.Act.TheVariants.{Plain}
 use Rattle.sei_fault.specs.declared.place.Place.{Place}
 use Rattle.sei_fault.specs.declared.place.Phase.{Phase}
-use Rattle.sei_fault.specs.declared.place.Phase.TheVariants.{Guard, Take, First, Restore, Second, Compare, Verify, Enter, Give, Send, Done as Last}
+use Rattle.sei_fault.specs.declared.place.Phase.TheVariants.{Guard, Take, First, Restore, Second, Compare, Verify, Enter, Give, Send, Done}
 use Rattle.sei_fault.specs.Question.{Question, Answer, honestly_to}
 use Rattle.sei_fault.specs.Tree.{Runs, any_core, honest, questions}
 use Rattle.sei_fault.proofs.Runs.{counted_runs}
@@ -45,7 +45,7 @@ given_with e loan = given_of e.service e.input e.geometry (bucket_of loan)
 
 abbrev pub ActsOn : Errand → ℕ → Walk → Option BucketWords → ℕ → ℕ → Phase → Type 0
 ActsOn e now w loan steps asked p =
-    GoesOn e (given_with e loan) now p w (words_of loan) (left_of loan) steps asked ⊎ (Finishes e (given_with e loan) now p w (words_of loan) steps asked × (want_in e w p ≡ Nothing) × NextIn p w.place.index Last)
+    GoesOn e (given_with e loan) now p w (words_of loan) (left_of loan) steps asked ⊎ (Finishes e (given_with e loan) now p w (words_of loan) steps asked × (want_in e w p ≡ Nothing) × NextIn p w.place.index Done)
 
 -- what a lent bucket's act is given
 of_bucket : (e : Errand) (now : ℕ) (w : Walk) (b : BucketWords) (steps asked : ℕ) (p : Phase) → b.bucket ≡ e.call.bucket →
@@ -58,11 +58,11 @@ module _ (e : Errand) (ie : IsErrand e) (now : ℕ) (small : now < 2 ^ 64) (told
   acts_on None Guard h i = inl (guard_on e ie now None w (words_of None) steps asked i)
   acts_on None Take h i = inl (take_on e ie now None w (words_of None) steps asked nothing i)
   acts_on None Send h i = inl (send_on e now w (words_of None) steps asked None i)
-  acts_on None Last h i = inr (done_on e now None w (words_of None) steps asked i, refl, refl)
+  acts_on None Done h i = inr (done_on e now None w (words_of None) steps asked i, refl, refl)
   acts_on (Some b) Guard h i = absurd cc
   acts_on (Some b) Take h i = absurd cc
   acts_on (Some b) Send h i = absurd cc
-  acts_on (Some b) Last h i = absurd cc
+  acts_on (Some b) Done h i = absurd cc
   acts_on (Some b) First h i = of_bucket e now w b steps asked First h (first_on e now w b.words steps asked ie small told nothing i)
   acts_on (Some b) Restore h i = of_bucket e now w b steps asked Restore h (restore_on e now w b.words steps asked nothing i)
   acts_on (Some b) Second h i = of_bucket e now w b steps asked Second h (second_on e now w b.words steps asked nothing i)
@@ -108,7 +108,7 @@ want_same e w Verify = refl
 want_same e w Enter = refl
 want_same e w Give = refl
 want_same e w Send = refl
-want_same e w Last = refl
+want_same e w Done = refl
 
 -- a step without a strike goes on, or comes to the end
 data Honestly (e : Errand) (old new : TraversalState) (lent : Option (List ℕ)) (begin now : Counts) (state : State) : Type 0 where
@@ -158,10 +158,10 @@ module _ (e : Errand) (ie : IsErrand e) (begin c d : Counts) (old new : Traversa
       (subst (λ (u : Walk). NextIn old.walk.place.phase old.walk.place.index u.place.phase) (sym walk_is) a.next)
 
   comes_to_end : (a : Finishes e (given_with e loan) now old.walk.place.phase (unwanting old.walk) (words_of loan) old.steps clean.asked) → want_in e old.walk old.walk.place.phase ≡ Nothing →
-      NextIn old.walk.place.phase old.walk.place.index Last → Honestly e old new (lent_words left) begin d state
+      NextIn old.walk.place.phase old.walk.place.index Done → Honestly e old new (lent_words left) begin d state
   comes_to_end a none last =
       let h = honest_end ∙ finish_turn (given_with e loan) now later old.walk (words_of loan) e old.steps clean.asked a in
-      let w : Walk = record a.walk { place = at Last 1 } in
+      let w : Walk = record a.walk { place = at Done 1 } in
       let walk_is : new.walk ≡ w = ap (λ (x : Turn). x.walk) h in
       Ends (ap (λ (x : Turn). x.state) h)
       (record {

@@ -6,7 +6,7 @@ use Rattle.sei_fault.specs.declared.cause.AbortCause.TheVariants.{Range}
 use Rattle.sei_fault.specs.StruckRuns.{StruckRun}
 use Rattle.sei_fault.specs.Tree.{honest, questions}
 use Rattle.sei_fault.specs.declared.place.Phase.{Phase}
-use Rattle.sei_fault.specs.declared.place.Phase.TheVariants.{Guard, Take, Send, Done as Last}
+use Rattle.sei_fault.specs.declared.place.Phase.TheVariants.{Guard, Take, Send, Done}
 use Rattle.sei_fault.specs.declared.place.Place.{Place}
 use Rattle.sei_traverse.specs.declared.turned.Want.TheVariants.{Nothing}
 use Rattle.sei_traverse.specs.declared.walk.Ending.{Ending}
@@ -26,7 +26,7 @@ abbrev pub lent_in : Phase → List ℕ → Option (List ℕ)
 lent_in Guard words = None
 lent_in Take words = None
 lent_in Send words = None
-lent_in Last words = None
+lent_in Done words = None
 lent_in phase words = Some words
 
 -- what the acts of a phase are given, where the wanted bucket is lent
@@ -34,13 +34,13 @@ abbrev pub given_for : Errand → Phase → ℕ → Given
 given_for e Guard wanted = given_of e.service e.input e.geometry None
 given_for e Take wanted = given_of e.service e.input e.geometry None
 given_for e Send wanted = given_of e.service e.input e.geometry None
-given_for e Last wanted = given_of e.service e.input e.geometry None
+given_for e Done wanted = given_of e.service e.input e.geometry None
 given_for e phase wanted = given_of e.service e.input e.geometry (Some wanted)
 
 -- the act leads to a place where the gate is right, and the case of its phase stands; or to the end
 pub data LeadsWell (e : Errand) (phase : Phase) (w : Walk) (words : List ℕ) (asked : ℕ) (to : Place) : Type 0 where
   Onward : w.gate.done ≡ phase_number to.phase → StruckIn e (record w { place = to }) (lent_in phase words) asked to.phase → LeadsWell e phase w words asked to
-  ToEnd : phase ≡ Last → to ≡ at Last 1 → w.gate.done ≡ 11 → SendStruck e w asked → LeadsWell e phase w words asked to
+  ToEnd : phase ≡ Done → to ≡ at Done 1 → w.gate.done ≡ 11 → SendStruck e w asked → LeadsWell e phase w words asked to
 
 abbrev pub EndsRight : Errand → Phase → Walk → List ℕ → ℕ → Ending → Type 0
 EndsRight e phase w words asked (Leads to) = LeadsWell e phase w words asked to

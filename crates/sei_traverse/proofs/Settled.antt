@@ -1,7 +1,7 @@
 -- Where a traversal that nothing struck stands says no more of fewer steps or of another want, and bounds the number of its steps.
 use Rattle.std.proofs.Common.{ℕ, ◌+◌, ◌*◌, ◌<◌, ◌≤◌, List, length, Option, Some, None, arith, refl, subst}
 use Rattle.sei_fault.specs.declared.place.Phase.{Phase}
-use Rattle.sei_fault.specs.declared.place.Phase.TheVariants.{Guard, Take, First, Restore, Second, Compare, Verify, Enter, Give, Send, Done as Last}
+use Rattle.sei_fault.specs.declared.place.Phase.TheVariants.{Guard, Take, First, Restore, Second, Compare, Verify, Enter, Give, Send, Done}
 use Rattle.sei_stmt.specs.Machine.{Machine, After}
 use Rattle.sei_stmt.specs.Honest.{after}
 use Rattle.sei_pass.specs.State.{budget_of}
@@ -150,8 +150,8 @@ settles e w n lent s t asked Send le c = record {
   words = c.words;
   number = omega (arith, le, c.number);
 }
-settles e w n lent s t asked Last le c = record {
-  is = is_of e w n Last c.is;
+settles e w n lent s t asked Done le c = record {
+  is = is_of e w n Done c.is;
   time = c.time;
   made = c.made;
   end = c.end;
@@ -216,7 +216,7 @@ bounded e is w lent s asked Verify c = at_most e c.time c.made c.end s c.both.wh
 bounded e is w lent s asked Enter c = at_most e c.time c.made c.end s c.both.whole (omega (arith, c.number))
 bounded e is w lent s asked Give c = at_most e c.time c.made c.end s c.both.whole (omega (arith, c.number))
 bounded e is w lent s asked Send c = at_most e c.time c.made c.end s c.answered.whole (omega (arith, c.number))
-bounded e is w lent s asked Last c = at_most e c.time c.made c.end s c.answered.whole (omega (arith, c.number))
+bounded e is w lent s asked Done c = at_most e c.time c.made c.end s c.answered.whole (omega (arith, c.number))
 
 -- and it has ended after so many
 pub bounded_end : (e : Errand) (w : Walk) (s asked : ℕ) → IsFinished e w s asked → s ≤ 2 * budget_of e.geometry + 3 * log_room e.geometry + 11

@@ -4,7 +4,7 @@ use Rattle.std.specs.Prelude.{⊤, ◌==◌, ◌&&◌, if◌then◌else◌}
 use Rattle.std.proofs.lemmas.Bool.Decides.{nat_tests}
 use Rattle.sei_fault.specs.declared.cause.AbortCause.TheVariants.{Gate, Range}
 use Rattle.sei_fault.specs.declared.place.Phase.{Phase}
-use Rattle.sei_fault.specs.declared.place.Phase.TheVariants.{Guard, Take, First, Restore, Second, Compare, Verify, Enter, Give, Send, Done as Last}
+use Rattle.sei_fault.specs.declared.place.Phase.TheVariants.{Guard, Take, First, Restore, Second, Compare, Verify, Enter, Give, Send, Done}
 use Rattle.sei_fault.specs.declared.place.Place.{Place}
 use Rattle.sei_fault.specs.Phases.{phase_number}
 use Rattle.sei_fault.specs.Tree.{honest}
@@ -45,7 +45,7 @@ phase_at (suc (suc (suc (suc (suc (suc zero)))))) = Verify
 phase_at (suc (suc (suc (suc (suc (suc (suc zero))))))) = Enter
 phase_at (suc (suc (suc (suc (suc (suc (suc (suc zero)))))))) = Give
 phase_at (suc (suc (suc (suc (suc (suc (suc (suc (suc zero))))))))) = Send
-phase_at (suc (suc (suc (suc (suc (suc (suc (suc (suc (suc n)))))))))) = Last
+phase_at (suc (suc (suc (suc (suc (suc (suc (suc (suc (suc n)))))))))) = Done
 
 back_to : (p : Phase) → phase_at (phase_number p) ≡ p
 unfolding phase_at
@@ -59,7 +59,7 @@ back_to Verify = refl
 back_to Enter = refl
 back_to Give = refl
 back_to Send = refl
-back_to Last = refl
+back_to Done = refl
 
 -- phases of the same number are the same
 pub same_phase : (p q : Phase) → phase_number p ≡ phase_number q → p ≡ q
@@ -76,7 +76,7 @@ small_number Verify = omega arith
 small_number Enter = omega arith
 small_number Give = omega arith
 small_number Send = omega arith
-small_number Last = omega arith
+small_number Done = omega arith
 
 -- two phases are the same, or their numbers differ
 pub same_or : (p q : Phase) → (p ≡ q) ⊎ (phase_number p ≢ phase_number q)
@@ -139,7 +139,7 @@ closing_same Verify w v l = refl
 closing_same Enter w v l = refl
 closing_same Give w v l = refl
 closing_same Send w v l = ap (λ (q : PassState). send_want q.bytes.items) l.second
-closing_same Last w v l = refl
+closing_same Done w v l = refl
 
 pub once_like : (e : Errand) (before : ℕ) (w v : Walk) (E F : Type 0) → IsLike w v → v.gate.done ≡ w.gate.done → v.want ≡ w.want → (E → F) → ClosesNext e before w E → ClosesNext e before v F
 once_like e before w v E F l gate want f (Stays at none) = Stays (gate ∙ at) (want ∙ none)
@@ -249,7 +249,7 @@ knows_fit e w Verify n k = k.fit
 knows_fit e w Enter n k = k.fit
 knows_fit e w Give n k = k.fit
 knows_fit e w Send n k = k.fit
-knows_fit e w Last n k = k.fit
+knows_fit e w Done n k = k.fit
 
 pub aimed_knows : (e : Errand) (w : Walk) (p : Phase) → IsAimed e w → Knows e w p
 aimed_knows e w Guard a = tt
@@ -262,7 +262,7 @@ aimed_knows e w Verify a = a
 aimed_knows e w Enter a = a
 aimed_knows e w Give a = a
 aimed_knows e w Send a = a
-aimed_knows e w Last a = a
+aimed_knows e w Done a = a
 
 -- the gate of a clean traversal, and what it has sealed
 pub clean_gate : (e : Errand) (w : Walk) (lent : Option (List ℕ)) (steps asked : ℕ) (p : Phase) → CleanIn e w lent steps asked p → w.gate.done ≡ phase_number p
@@ -276,7 +276,7 @@ clean_gate e w lent steps asked Verify c = c.is.gate
 clean_gate e w lent steps asked Enter c = c.is.gate
 clean_gate e w lent steps asked Give c = c.is.gate
 clean_gate e w lent steps asked Send c = c.is.gate
-clean_gate e w lent steps asked Last c = c.is.gate
+clean_gate e w lent steps asked Done c = c.is.gate
 
 pub clean_sealed : (e : Errand) (w : Walk) (lent : Option (List ℕ)) (steps asked : ℕ) (p : Phase) → CleanIn e w lent steps asked p → w.sealed ≡ e.sealed
 clean_sealed e w lent steps asked Guard c = c.is.sealed
@@ -289,7 +289,7 @@ clean_sealed e w lent steps asked Verify c = c.is.sealed
 clean_sealed e w lent steps asked Enter c = c.is.sealed
 clean_sealed e w lent steps asked Give c = c.is.sealed
 clean_sealed e w lent steps asked Send c = c.is.sealed
-clean_sealed e w lent steps asked Last c = c.is.sealed
+clean_sealed e w lent steps asked Done c = c.is.sealed
 
 -- A clean traversal that a strike moves to any place.
 
@@ -324,13 +324,13 @@ StaysIn phase (Aborts cause) = ⊤
 
 -- at a place where the gate is not right a traversal stays lost; in the last phase it aborts
 pub lost_well : (e : Errand) (after : List ℕ → Option (List ℕ)) (before asked : ℕ) (p : Phase) → (p ≡ Guard → IsFit e) → (u : Walk) (words : List ℕ) (ending : Ending) →
-    StaysIn p ending → (p ≡ Last → (to : Place) → ending ≡ Leads to → ⊥) → u.gate.done ≢ phase_number p → WantsWell e (after words) before asked u →
+    StaysIn p ending → (p ≡ Done → (to : Place) → ending ≡ Leads to → ⊥) → u.gate.done ≢ phase_number p → WantsWell e (after words) before asked u →
     EndsWell e (StruckStands e) after before asked (honest (goes_from u words ending))
 lost_well e after before asked p fit u words (Leads to) stays never gate wants =
     comes_well e (StruckStands e) after before asked asked asked u words to (arrival u.place.phase to u.gate.done) (omega arith) (omega arith)
     (arrives_well e (after words) asked (record u { place = to }) u.place.phase to u.gate.done
     (λ h. Lost (λ same. gate (same ∙ ap phase_number stays)) (λ guard. fit (sym stays ∙ guard)))
-    (λ h eleven. absurd (never (same_phase p Last (ap phase_number (sym stays) ∙ end_number to h)) to refl))) wants
+    (λ h eleven. absurd (never (same_phase p Done (ap phase_number (sym stays) ∙ end_number to h)) to refl))) wants
 lost_well e after before asked p fit u words Refuses stays never gate wants = absurd stays
 lost_well e after before asked p fit u words (Aborts cause) stays never gate wants =
     comes_well e (StruckStands e) after before asked asked asked u words u.place (aborted u.place.phase cause) (omega arith) (omega arith) tt wants

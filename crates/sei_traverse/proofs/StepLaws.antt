@@ -4,7 +4,7 @@ use Rattle.std.specs.Prelude.{if◌then◌else◌}
 use Rattle.sei_fault.specs.declared.cause.AbortCause.TheVariants.{Gate}
 use Rattle.sei_fault.specs.declared.place.Act.TheVariants.{Plain}
 use Rattle.sei_fault.specs.declared.place.Phase.{Phase}
-use Rattle.sei_fault.specs.declared.place.Phase.TheVariants.{Guard, Take, First, Restore, Second, Compare, Verify, Enter, Give, Send, Done as Last}
+use Rattle.sei_fault.specs.declared.place.Phase.TheVariants.{Guard, Take, First, Restore, Second, Compare, Verify, Enter, Give, Send, Done}
 use Rattle.sei_fault.specs.declared.place.Place.{Place}
 use Rattle.sei_fault.specs.Phases.{phase_number}
 use Rattle.sei_fault.specs.StruckRuns.{StruckRun}
@@ -95,7 +95,7 @@ pub lends_right : (e : Errand) (p : Phase) (wanted : ℕ) (loan : Option BucketW
 lends_right e Guard wanted loan h = none_right e Guard wanted loan h refl (λ words. refl)
 lends_right e Take wanted loan h = none_right e Take wanted loan h refl (λ words. refl)
 lends_right e Send wanted loan h = none_right e Send wanted loan h refl (λ words. refl)
-lends_right e Last wanted loan h = none_right e Last wanted loan h refl (λ words. refl)
+lends_right e Done wanted loan h = none_right e Done wanted loan h refl (λ words. refl)
 lends_right e First wanted loan h = bucket_right e First wanted loan h refl (λ words. refl)
 lends_right e Restore wanted loan h = bucket_right e Restore wanted loan h refl (λ words. refl)
 lends_right e Second wanted loan h = bucket_right e Second wanted loan h refl (λ words. refl)
@@ -113,7 +113,7 @@ lends_clean : (e : Errand) (w : Walk) (p : Phase) (loan : Option BucketWords) �
 lends_clean e w Guard loan k h = h
 lends_clean e w Take loan k h = h
 lends_clean e w Send loan k h = h
-lends_clean e w Last loan k h = h
+lends_clean e w Done loan k h = h
 lends_clean e w First loan k h = of_call e w loan k h
 lends_clean e w Restore loan k h = of_call e w loan k h
 lends_clean e w Second loan k h = of_call e w loan k h
@@ -127,7 +127,7 @@ pub lends_again : (p : Phase) (index a b : ℕ) (loan : Option BucketWords) → 
 lends_again Guard index a b loan n h = h
 lends_again Take index a b loan n h = h
 lends_again Send index a b loan n h = h
-lends_again Last index a b loan n h = h
+lends_again Done index a b loan n h = h
 lends_again First index a b loan n h = subst (λ (wanted : ℕ). LendsBucketOf wanted loan) (sym (n tt)) h
 lends_again Restore index a b loan n h = subst (λ (wanted : ℕ). LendsBucketOf wanted loan) (sym (n tt)) h
 lends_again Second index a b loan n h = subst (λ (wanted : ℕ). LendsBucketOf wanted loan) (sym (n tt)) h
@@ -159,8 +159,8 @@ next_not_guard Guard index q h = other_than_guard Take q h (λ n. omega (arith, 
 next_not_guard Take zero q h = other_than_guard Take q h (λ n. omega (arith, n))
 next_not_guard Take (suc index) q h = other_than_guard First q h (λ n. omega (arith, n))
 next_not_guard Give index q h = other_than_guard Send q h (λ n. omega (arith, n))
-next_not_guard Send index q h = other_than_guard Last q h (λ n. omega (arith, n))
-next_not_guard Last index q h = other_than_guard Last q h (λ n. omega (arith, n))
+next_not_guard Send index q h = other_than_guard Done q h (λ n. omega (arith, n))
+next_not_guard Done index q h = other_than_guard Done q h (λ n. omega (arith, n))
 next_not_guard First index q h = lent_not_guard q h
 next_not_guard Restore index q h = lent_not_guard q h
 next_not_guard Second index q h = lent_not_guard q h
@@ -191,11 +191,11 @@ wants_kind e w Compare = Quiet refl (λ v. refl)
 wants_kind e w Verify = Quiet refl (λ v. refl)
 wants_kind e w Enter = Edge (λ g clock u words. closes_only Enter u words WantEnter (at Give 0))
 wants_kind e w Give = Edge (λ g clock u words. closes_only Give u words WantGive (at Send 0))
-wants_kind e w Send = Edge (λ g clock u words. closes_only Send u words (send_want (reply_of u)) (at Last 0))
-wants_kind e w Last = Quiet refl (λ v. refl)
+wants_kind e w Send = Edge (λ g clock u words. closes_only Send u words (send_want (reply_of u)) (at Done 0))
+wants_kind e w Done = Quiet refl (λ v. refl)
 
 -- the last act doesn't lead on at a gate that is not right
-pub never_on : (g : Given) (clock : ℕ) (p : Phase) (index : ℕ) (w : Walk) (words : List ℕ) → w.gate.done ≢ phase_number p → p ≡ Last → (to : Place) → (honest (act_in g clock p index w words)).ending ≡ Leads to → ⊥
+pub never_on : (g : Given) (clock : ℕ) (p : Phase) (index : ℕ) (w : Walk) (words : List ℕ) → w.gate.done ≢ phase_number p → p ≡ Done → (to : Place) → (honest (act_in g clock p index w words)).ending ≡ Leads to → ⊥
 never_on g clock p index w words gate last to leads =
     let wrong : (w.gate.done ≡ 10 → ⊥) = λ same. gate (same ∙ ap phase_number (sym last)) in
     let aborts : (honest (done_tree w words)).ending ≡ Aborts (Gate w.gate.done) =
@@ -207,12 +207,12 @@ never_on g clock p index w words gate last to leads =
     closed_or : Walk → List ℕ → Bool → Tree Acted
     closed_or u left b =
         let v : Walk = record u { gate = record { done = if b then risen u.gate.done else u.gate.done } } in
-        if b then ends (record v { want = Nothing }) left (Leads (at Last 1)) else ends v left (Aborts (Gate (if b then risen u.gate.done else u.gate.done)))
+        if b then ends (record v { want = Nothing }) left (Leads (at Done 1)) else ends v left (Aborts (Gate (if b then risen u.gate.done else u.gate.done)))
 
 -- The act of a clean traversal: it goes on, or to the end, or Guard refuses an input that is not fit.
 pub data CleanAct (e : Errand) (now : ℕ) (w : Walk) (loan : Option BucketWords) (steps asked : ℕ) (p : Phase) : Type 0 where
   Goes : IsFit e → GoesOn e (given_with e loan) now p w (words_of loan) (left_of loan) steps asked → CleanAct e now w loan steps asked p
-  Ends : IsFit e → p ≡ Last → Finishes e (given_with e loan) now p w (words_of loan) steps asked → CleanAct e now w loan steps asked p
+  Ends : IsFit e → p ≡ Done → Finishes e (given_with e loan) now p w (words_of loan) steps asked → CleanAct e now w loan steps asked p
   Unfit : p ≡ Guard → IsUnfitInput e → site_in e.service w p w.place.index ≡ Some Plain → honest (act_in (given_with e loan) now p w.place.index w (words_of loan)) ≡ acted w (words_of loan) Refuses →
       CleanAct e now w loan steps asked p
 
@@ -251,8 +251,8 @@ module _ (e : Errand) (now : ℕ) (loan : Option BucketWords) (w : Walk) (steps 
   send_elsewhere : w.gate.done ≡ phase_number Send → Finishes e (given_with e loan) now Send w (words_of loan) steps asked → ⊥
   send_elsewhere gate f =
       let want : Want = send_want (reply_of w) in
-      let end = closes_then Send w (words_of loan) (λ v. ends (record v { want = want }) (words_of loan) (Leads (at Last 0))) gate in
-      let same : Leads (at Last 0) ≡ Leads (at Last 1) = ap (λ (y : Acted). y.ending) (sym end ∙ f.acts) in
+      let end = closes_then Send w (words_of loan) (λ v. ends (record v { want = want }) (words_of loan) (Leads (at Done 0))) gate in
+      let same : Leads (at Done 0) ≡ Leads (at Done 1) = ap (λ (y : Acted). y.ending) (sym end ∙ f.acts) in
       let index : 0 ≡ 1 = ap (λ (x : Ending). index_of x) same in
       omega (arith, index)
     where
@@ -264,16 +264,16 @@ module _ (e : Errand) (now : ℕ) (loan : Option BucketWords) (w : Walk) (steps 
   apart : (p q : Phase) → phase_number p ≢ phase_number q → p ≡ q → ⊥
   apart p q n h = n (ap phase_number h)
 
-  last_only : (p : Phase) → CleanIn e w (lent_words loan) steps asked p → Finishes e (given_with e loan) now p w (words_of loan) steps asked → NextIn p w.place.index Last → p ≡ Last
-  last_only Last clean f h = refl
+  last_only : (p : Phase) → CleanIn e w (lent_words loan) steps asked p → Finishes e (given_with e loan) now p w (words_of loan) steps asked → NextIn p w.place.index Done → p ≡ Done
+  last_only Done clean f h = refl
   last_only Send clean f h = absurd (send_elsewhere clean.is.gate f)
-  last_only Guard clean f h = absurd (apart Last Take (λ n. omega (arith, n)) h)
+  last_only Guard clean f h = absurd (apart Done Take (λ n. omega (arith, n)) h)
   last_only Take clean f h = absurd (never_take w.place.index h)
     where
-      never_take : (index : ℕ) → NextIn Take index Last → ⊥
-      never_take zero n = apart Last Take (λ m. omega (arith, m)) n
-      never_take (suc index) n = apart Last First (λ m. omega (arith, m)) n
-  last_only Give clean f h = absurd (apart Last Send (λ n. omega (arith, n)) h)
+      never_take : (index : ℕ) → NextIn Take index Done → ⊥
+      never_take zero n = apart Done Take (λ m. omega (arith, m)) n
+      never_take (suc index) n = apart Done First (λ m. omega (arith, m)) n
+  last_only Give clean f h = absurd (apart Done Send (λ n. omega (arith, n)) h)
   last_only First clean f h = absurd h
   last_only Restore clean f h = absurd h
   last_only Second clean f h = absurd h
@@ -387,7 +387,7 @@ module _ (e : Errand) (trusted : IsTrusted e) (both : BothLaw e) (answered : Ans
 
   -- the acts of Send leave the second pass
   send_only : (a : On_from Send) → OnlyCloses w (words_of loan) (acted a.walk a.left (Leads a.to))
-  send_only a = only_closes e trusted both answered now loan w steps asked Send a (λ g clock u words. closes_only Send u words (send_want (reply_of u)) (at Last 0))
+  send_only a = only_closes e trusted both answered now loan w steps asked Send a (λ g clock u words. closes_only Send u words (send_want (reply_of u)) (at Done 0))
 
   send_wanted : IsAimed e w → InSend e w (lent_words loan) steps asked → (a : On_from Send) → (bytes : List ℕ) → reply_of w ≡ bytes → Wanted_on Send a
   send_wanted aimed i a [] h = wanted_none e trusted both answered now loan w steps asked Send a (a.want ∙ ap send_want h)
@@ -409,7 +409,7 @@ module _ (e : Errand) (trusted : IsTrusted e) (both : BothLaw e) (answered : Ans
   goes_wanted Enter fit knows i lends a = enter_wanted knows i lends a
   goes_wanted Give fit knows i lends a = give_wanted knows i lends a
   goes_wanted Send fit knows i lends a = send_wanted knows i a (reply_of w) refl
-  goes_wanted Last fit knows i lends a = wanted_none e trusted both answered now loan w steps asked Last a a.want
+  goes_wanted Done fit knows i lends a = wanted_none e trusted both answered now loan w steps asked Done a a.want
 
   -- where it closes its phase, it wants what is wanted there
 
@@ -431,7 +431,7 @@ module _ (e : Errand) (trusted : IsTrusted e) (both : BothLaw e) (answered : Ans
   goes_closing Enter i a apart = a.want
   goes_closing Give i a apart = a.want
   goes_closing Send i a apart = a.want ∙ ap (λ (q : PassState). send_want q.bytes.items) (sym (send_only a).like.second)
-  goes_closing Last i a apart = a.want
+  goes_closing Done i a apart = a.want
 
   aims_on : (p : Phase) (a : On_from p) → IsAimed e w → IsNoStore p w.place.index → Knows e (record a.walk { place = a.to }) a.to.phase
   aims_on p a aimed n = aimed_knows e (record a.walk { place = a.to }) a.to.phase (record { fit = aimed.fit; wanted = wanted_kept e trusted both answered now loan w steps asked p a n ∙ aimed.wanted })
@@ -453,7 +453,7 @@ module _ (e : Errand) (trusted : IsTrusted e) (both : BothLaw e) (answered : Ans
   knows_on Enter fit knows i a = aims_on Enter a knows tt
   knows_on Give fit knows i a = aims_on Give a knows tt
   knows_on Send fit knows i a = aims_on Send a knows tt
-  knows_on Last fit knows i a = aims_on Last a knows tt
+  knows_on Done fit knows i a = aims_on Done a knows tt
 
   -- the gate behind a phase that is only closed
   gate_behind : (p : Phase) (a : On_from p) (want : Want) (to : Place) → act_in (given_with e loan) now p w.place.index w (words_of loan) ≡ closes p w (words_of loan) want to → w.gate.done ≡ phase_number p →
@@ -480,8 +480,8 @@ module _ (e : Errand) (trusted : IsTrusted e) (both : BothLaw e) (answered : Ans
       let eight : a.walk.gate.done ≡ risen 7 = gate_behind Enter a WantEnter (at Give 0) refl gate in
       absurd (omega (arith, seven, eight))
   quiet_again Give a gate same = let h : phase_number Give ≡ phase_number Send = ap phase_number (sym same ∙ a.next) in absurd (omega (arith, h))
-  quiet_again Send a gate same = let h : phase_number Send ≡ phase_number Last = ap phase_number (sym same ∙ a.next) in absurd (omega (arith, h))
-  quiet_again Last a gate same = refl
+  quiet_again Send a gate same = let h : phase_number Send ≡ phase_number Done = ap phase_number (sym same ∙ a.next) in absurd (omega (arith, h))
+  quiet_again Done a gate same = refl
 
   -- and so each is wanted once
   pub goes_wants : (p : Phase) → IsFit e → Knows e w p → CleanIn e w (lent_words loan) steps asked p → LendsIn w.wanted p loan → (a : On_from p) → WantsWell e (left_of loan a.left) (phase_number p) asked a.walk
@@ -496,16 +496,16 @@ module _ (e : Errand) (trusted : IsTrusted e) (both : BothLaw e) (answered : Ans
 
 -- What is so behind an act that leads to the end.
 
-module _ (e : Errand) (answered : AnsweredLaw e) (now : ℕ) (loan : Option BucketWords) (w : Walk) (steps asked : ℕ) (p : Phase) (last : p ≡ Last) (knows : Knows e w p)
+module _ (e : Errand) (answered : AnsweredLaw e) (now : ℕ) (loan : Option BucketWords) (w : Walk) (steps asked : ℕ) (p : Phase) (last : p ≡ Done) (knows : Knows e w p)
     (f : Finishes e (given_with e loan) now p w (words_of loan) steps asked) where
-  pub end_kept : HonestlyKeeps w (acted f.walk f.left (Leads (at Last 1)))
+  pub end_kept : HonestlyKeeps w (acted f.walk f.left (Leads (at Done 1)))
   end_kept = subst (HonestlyKeeps w) f.acts (honestly_kept (given_with e loan) now w (words_of loan) p w.place.index)
 
   end_wanted : f.walk.wanted ≡ w.wanted
   end_wanted = (subst (Keeps w) f.acts (always_honest (Keeps w) (act_in (given_with e loan) now p w.place.index w (words_of loan))
       (keeps (given_with e loan) now w (words_of loan) p w.place.index (subst (λ (q : Phase). IsNoStore q w.place.index) (sym last) tt)))).wanted
 
-  pub end_sends : SendStruck e (record f.walk { place = at Last 1 }) asked
+  pub end_sends : SendStruck e (record f.walk { place = at Done 1 }) asked
   end_sends =
       let aimed : IsAimed e w = subst (λ (q : Phase). Knows e w q) last knows in
-      answered (record f.walk { place = at Last 1 }) f.finished.time f.finished.made f.finished.end asked (record { fit = aimed.fit; wanted = end_wanted ∙ aimed.wanted }) f.finished.answered
+      answered (record f.walk { place = at Done 1 }) f.finished.time f.finished.made f.finished.end asked (record { fit = aimed.fit; wanted = end_wanted ∙ aimed.wanted }) f.finished.answered

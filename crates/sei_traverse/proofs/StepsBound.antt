@@ -11,7 +11,7 @@ use Rattle.sei_fault.specs.declared.cause.AbortCause.{AbortCause}
 use Rattle.sei_fault.specs.declared.cause.AbortCause.TheVariants.{Budget, Gate, Range, Differs, Reply as Replies, Wire as Wires}
 use Rattle.sei_fault.specs.declared.place.Act.{Act}
 use Rattle.sei_fault.specs.declared.place.Phase.{Phase}
-use Rattle.sei_fault.specs.declared.place.Phase.TheVariants.{Guard, Take, First, Restore, Second, Compare, Verify, Enter, Give, Send, Done as Last}
+use Rattle.sei_fault.specs.declared.place.Phase.TheVariants.{Guard, Take, First, Restore, Second, Compare, Verify, Enter, Give, Send, Done}
 use Rattle.sei_fault.specs.declared.place.Place.{Place}
 use Rattle.sei_fault.specs.declared.place.Times.{Times}
 use Rattle.sei_fault.specs.declared.place.Times.TheVariants.{Once, Skip, Twice}
@@ -247,8 +247,8 @@ act_up k g now Compare index w words = compare_up k index w words (nat_lt index 
 act_up k g now Verify index w words = verify_up k index w words (nat_lt index (length w.second_log.items)) refl
 act_up k g now Enter index w words = closes_up k w Enter index Enter w words WantEnter (at Give 0) (same_made w) (λ f onward. omega arith)
 act_up k g now Give index w words = closes_up k w Give index Give w words WantGive (at Send 0) (same_made w) (λ f onward. omega arith)
-act_up k g now Send index w words = closes_up k w Send index Send w words (send_want (reply_of w)) (at Last 0) (same_made w) (λ f onward. omega arith)
-act_up k g now Last index w words = closes_up k w Last index Last w words Nothing (at Last 1) (same_made w) (λ f onward. absurd cc)
+act_up k g now Send index w words = closes_up k w Send index Send w words (send_want (reply_of w)) (at Done 0) (same_made w) (λ f onward. omega arith)
+act_up k g now Done index w words = closes_up k w Done index Done w words Nothing (at Done 1) (same_made w) (λ f onward. absurd cc)
 
 -- a whole step
 
@@ -320,7 +320,7 @@ number_within k Verify index = omega arith
 number_within k Enter index = omega arith
 number_within k Give index = omega arith
 number_within k Send index = omega arith
-number_within k Last index = omega arith
+number_within k Done index = omega arith
 
 -- the bound
 

@@ -5,7 +5,7 @@ use Rattle.std.proofs.lemmas.Bool.{ltb-true, ltb-false}
 use Rattle.sei_fault.specs.declared.cause.AbortCause.{AbortCause}
 use Rattle.sei_fault.specs.declared.cause.AbortCause.TheVariants.{Gate, Range}
 use Rattle.sei_fault.specs.declared.place.Phase.{Phase}
-use Rattle.sei_fault.specs.declared.place.Phase.TheVariants.{Guard, Take, First, Enter, Give, Send, Done as Last}
+use Rattle.sei_fault.specs.declared.place.Phase.TheVariants.{Guard, Take, First, Enter, Give, Send, Done}
 use Rattle.sei_fault.specs.declared.place.Place.{Place}
 use Rattle.sei_fault.specs.Phases.{phase_number}
 use Rattle.sei_fault.specs.StruckRuns.{StruckRun}
@@ -299,19 +299,19 @@ send_always : (e : Errand) (w : Walk) (words : List ℕ) (asked more : ℕ) → 
 send_always e w words asked more le nothing gate s =
     let next : risen w.gate.done ≡ 10 = ap risen gate in
     let v : Walk = record (closed_walk w) { want = send_want (reply_of w) } in
-    always_closes (ActsWell e Send more) Send w words (λ v. ends (record v { want = send_want (reply_of w) }) words (Leads (at Last 0)))
-    (closes_well e Send more v words (at Last 0) next refl (send_wants e v more (reply_of v) refl (send_at e w v asked more refl refl refl refl le s))
-    (Onward next (send_at e w (record v { place = at Last 0 }) asked more refl refl refl refl le s)))
+    always_closes (ActsWell e Send more) Send w words (λ v. ends (record v { want = send_want (reply_of w) }) words (Leads (at Done 0)))
+    (closes_well e Send more v words (at Done 0) next refl (send_wants e v more (reply_of v) refl (send_at e w v asked more refl refl refl refl le s))
+    (Onward next (send_at e w (record v { place = at Done 0 }) asked more refl refl refl refl le s)))
     (aborts_well e Send more w words (Gate w.gate.done) nothing gate)
 
 done_always : (e : Errand) (w : Walk) (words : List ℕ) (asked more : ℕ) → asked ≤ more → w.want ≡ Nothing → w.gate.done ≡ 10 → SendStruck e w asked →
-    Always (ActsWell e Last more) (done_tree w words)
+    Always (ActsWell e Done more) (done_tree w words)
 done_always e w words asked more le nothing gate s =
     let next : risen w.gate.done ≡ 11 = ap risen gate in
     let v : Walk = record (closed_walk w) { want = Nothing } in
-    always_closes (ActsWell e Last more) Last w words (λ v. ends (record v { want = Nothing }) words (Leads (at Last 1)))
-    (closes_well e Last more v words (at Last 1) next refl tt (ToEnd refl refl next (send_at e w v asked more refl refl refl refl le s)))
-    (aborts_well e Last more w words (Gate w.gate.done) nothing gate)
+    always_closes (ActsWell e Done more) Done w words (λ v. ends (record v { want = Nothing }) words (Leads (at Done 1)))
+    (closes_well e Done more v words (at Done 1) next refl tt (ToEnd refl refl next (send_at e w v asked more refl refl refl refl le s)))
+    (aborts_well e Done more w words (Gate w.gate.done) nothing gate)
 
 pub send_laws : (e : Errand) → IsTrusted e → PhaseLaws e Send
 send_laws e trusted = record {
@@ -325,14 +325,14 @@ send_laws e trusted = record {
       (send_always e w words asked (asked + questions (send_tree w words)) (no_less asked (questions (send_tree w words))) nothing gate s);
 }
 
-pub done_laws : (e : Errand) → IsTrusted e → PhaseLaws e Last
+pub done_laws : (e : Errand) → IsTrusted e → PhaseLaws e Done
 done_laws e trusted = record {
   moved = λ w lent steps asked index i knows.
-      send_at e w (record w { place = at Last index }) asked asked refl refl refl refl (not_less asked) (answers_answered e trusted w i.time i.made i.end asked knows i.answered);
+      send_at e w (record w { place = at Done index }) asked asked refl refl refl refl (not_less asked) (answers_answered e trusted w i.time i.made i.end asked knows i.answered);
   struck = λ now small told w words steps asked n y nothing i knows run.
-      always_struck (ActsWell e Last (asked + n)) (done_tree w words) y n
+      always_struck (ActsWell e Done (asked + n)) (done_tree w words) y n
       (done_always e w words asked (asked + n) (no_less asked n) nothing i.is.gate (answers_answered e trusted w i.time i.made i.end asked knows i.answered)) run;
   honest_on = λ now small told w words asked nothing gate sealed s.
-      always_honest (ActsWell e Last (asked + questions (done_tree w words))) (done_tree w words)
+      always_honest (ActsWell e Done (asked + questions (done_tree w words))) (done_tree w words)
       (done_always e w words asked (asked + questions (done_tree w words)) (no_less asked (questions (done_tree w words))) nothing gate s);
 }

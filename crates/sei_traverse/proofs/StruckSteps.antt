@@ -5,7 +5,7 @@ use Rattle.sei_fault.specs.declared.cause.AbortCause.TheVariants.{Table}
 use Rattle.sei_fault.specs.declared.place.Act.{Act}
 use Rattle.sei_fault.specs.declared.place.Act.TheVariants.{Plain}
 use Rattle.sei_fault.specs.declared.place.Phase.{Phase}
-use Rattle.sei_fault.specs.declared.place.Phase.TheVariants.{Guard, Take, Done as Last}
+use Rattle.sei_fault.specs.declared.place.Phase.TheVariants.{Guard, Take, Done}
 use Rattle.sei_fault.specs.declared.place.Place.{Place}
 use Rattle.sei_fault.specs.declared.place.Times.{Times}
 use Rattle.sei_fault.specs.declared.place.Times.TheVariants.{Once, Skip, Twice}
@@ -227,15 +227,15 @@ module _ (e : Errand) (trusted : IsTrusted e) (laws : (phase : Phase) → (phase
         by_phase (inl same) = raised e (StruckStands e) (left_of loan) (phase_number w.place.phase) (asked + (a.more + questions (once g later a.walk a.left))) (asked + n) (honest (once g later a.walk a.left)) (omega (arith, le)) (same_again same)
         by_phase (inr apart) = raised e (StruckStands e) (left_of loan) (phase_number w.place.phase) (asked + 0) (asked + n) (honest (once g later a.walk a.left)) (omega arith) (lost_again apart)
 
-  module _ (fit : IsFit e) (last : w.place.phase ≡ Last) (f : Finishes e (given_with e loan) now w.place.phase w (words_of loan) steps asked) where
-    sends : SendStruck e (record f.walk { place = at Last 1 }) asked
+  module _ (fit : IsFit e) (last : w.place.phase ≡ Done) (f : Finishes e (given_with e loan) now w.place.phase w (words_of loan) steps asked) where
+    sends : SendStruck e (record f.walk { place = at Done 1 }) asked
     sends = end_sends e answered now loan w steps asked w.place.phase last knows f
 
-    end_is_kept : HonestlyKeeps w (acted f.walk f.left (Leads (at Last 1)))
+    end_is_kept : HonestlyKeeps w (acted f.walk f.left (Leads (at Done 1)))
     end_is_kept = end_kept e answered now loan w steps asked w.place.phase last knows f
 
     end_closes : (v : Walk) → v.gate.done ≡ 11 → v.want ≡ Nothing → ClosesNext e (phase_number w.place.phase) v ⊥
-    end_closes v eleven none = Closes Last (ap phase_number last) (let ten : phase_number w.place.phase ≡ 10 = ap phase_number last in omega (arith, ten, eleven)) none
+    end_closes v eleven none = Closes Done (ap phase_number last) (let ten : phase_number w.place.phase ≡ 10 = ap phase_number last in omega (arith, ten, eleven)) none
 
     end_wants : WantsWell e (left_of loan f.left) (phase_number w.place.phase) asked f.walk
     end_wants = record { wanted = nothing_wanted e (left_of loan f.left) asked f.walk f.want; once = end_closes f.walk f.finished.gate f.want }
@@ -243,7 +243,7 @@ module _ (e : Errand) (trusted : IsTrusted e) (laws : (phase : Phase) → (phase
     ends_anywhere : (n : ℕ) (to : Place) → EndsAs n (turn (record f.walk { place = to }) f.left (arrival f.walk.place.phase to f.walk.gate.done))
     ends_anywhere n to =
         comes_well e (StruckStands e) (left_of loan) (phase_number w.place.phase) (asked + n) asked asked f.walk f.left to (arrival f.walk.place.phase to f.walk.gate.done) (omega arith) (omega arith)
-        (moves_at_end e (record f.walk { place = at Last 1 }) (left_of loan f.left) asked fit f.finished.gate sends f.walk.place.phase to) end_wants
+        (moves_at_end e (record f.walk { place = at Done 1 }) (left_of loan f.left) asked fit f.finished.gate sends f.walk.place.phase to) end_wants
 
     -- the last act once more closes nothing
     ends_again : (n : ℕ) → EndsAs n (honest (once g later f.walk f.left))
@@ -313,7 +313,7 @@ module _ (e : Errand) (trusted : IsTrusted e) (laws : (phase : Phase) → (phase
       anywhere a.walk a.left a.to x n (in_going (acted a.walk a.left (Leads a.to)) a.acts x n run) (λ (y : Turn). EndsAs (questions (act_tree g now w words) + n) y)
       (λ r. goes_anywhere fit a (questions (act_tree g now w words) + n) r (omega (arith, a.asks)))
   goes_struck x n run (Ends fit last f) =
-      anywhere f.walk f.left (at Last 1) x n (in_going (acted f.walk f.left (Leads (at Last 1))) f.acts x n run) (λ (y : Turn). EndsAs (questions (act_tree g now w words) + n) y)
+      anywhere f.walk f.left (at Done 1) x n (in_going (acted f.walk f.left (Leads (at Done 1))) f.acts x n run) (λ (y : Turn). EndsAs (questions (act_tree g now w words) + n) y)
       (λ r. ends_anywhere fit last f (questions (act_tree g now w words) + n) r)
   goes_struck x n run (Unfit guard unfit site acts) = absurd (in_going (acted w words Refuses) acts x n run)
 
@@ -326,7 +326,7 @@ module _ (e : Errand) (trusted : IsTrusted e) (laws : (phase : Phase) → (phase
 
       by_act : CleanAct e now w loan steps asked w.place.phase → EndsAs (questions (once g now w words)) (honest (goes_on (honest (act_tree g now w words))))
       by_act (Goes fit a) = subst (λ (y : Acted). EndsAs (questions (once g now w words)) (honest (goes_on y))) (sym a.acts) (goes_anywhere fit a (questions (once g now w words)) a.to (enough a.more a.asks))
-      by_act (Ends fit last f) = subst (λ (y : Acted). EndsAs (questions (once g now w words)) (honest (goes_on y))) (sym f.acts) (ends_anywhere fit last f (questions (once g now w words)) (at Last 1))
+      by_act (Ends fit last f) = subst (λ (y : Acted). EndsAs (questions (once g now w words)) (honest (goes_on y))) (sym f.acts) (ends_anywhere fit last f (questions (once g now w words)) (at Done 1))
       by_act (Unfit guard unfit site acts) = subst (λ (y : Acted). EndsAs (questions (once g now w words)) (honest (goes_on y))) (sym acts) (refuses_here (questions (once g now w words)) guard)
 
   -- the act is made twice
@@ -379,12 +379,12 @@ module _ (e : Errand) (trusted : IsTrusted e) (laws : (phase : Phase) → (phase
       let lent = left_of loan a.left in
       let no_end = clean_no_end e u lent (suc steps) (asked + a.more) a.clean in
       comes_well e (CleanStands e (suc steps)) (left_of loan) (phase_number w.place.phase) (asked + n) (asked + a.more) asked a.walk a.left a.to (arrival a.walk.place.phase a.to a.walk.gate.done) (omega (arith, le)) (omega arith)
-      (subst (λ (b : Bool). CleanStands e (suc steps) (asked + a.more) u lent (if b then arrival a.walk.place.phase (at Last 1) a.walk.gate.done else Went)) (sym no_end) (a.clean, knows_next fit a)) (wants fit a)
+      (subst (λ (b : Bool). CleanStands e (suc steps) (asked + a.more) u lent (if b then arrival a.walk.place.phase (at Done 1) a.walk.gate.done else Went)) (sym no_end) (a.clean, knows_next fit a)) (wants fit a)
 
-  clean_ends : (fit : IsFit e) (last : w.place.phase ≡ Last) (f : Finishes e (given_with e loan) now w.place.phase w (words_of loan) steps asked) (n : ℕ) → CleanEndsAs n (honest (goes f.walk f.left (at Last 1)))
+  clean_ends : (fit : IsFit e) (last : w.place.phase ≡ Done) (f : Finishes e (given_with e loan) now w.place.phase w (words_of loan) steps asked) (n : ℕ) → CleanEndsAs n (honest (goes f.walk f.left (at Done 1)))
   clean_ends fit last f n =
-      comes_well e (CleanStands e (suc steps)) (left_of loan) (phase_number w.place.phase) (asked + n) asked asked f.walk f.left (at Last 1) (arrival f.walk.place.phase (at Last 1) f.walk.gate.done) (omega arith) (omega arith)
-      (subst (λ (done : ℕ). CleanStands e (suc steps) asked (record f.walk { place = at Last 1 }) (left_of loan f.left) (arrival f.walk.place.phase (at Last 1) done)) (sym f.finished.gate) (f.finished.gate, sends fit last f, f.finished)) (end_wants fit last f)
+      comes_well e (CleanStands e (suc steps)) (left_of loan) (phase_number w.place.phase) (asked + n) asked asked f.walk f.left (at Done 1) (arrival f.walk.place.phase (at Done 1) f.walk.gate.done) (omega arith) (omega arith)
+      (subst (λ (done : ℕ). CleanStands e (suc steps) asked (record f.walk { place = at Done 1 }) (left_of loan f.left) (arrival f.walk.place.phase (at Done 1) done)) (sym f.finished.gate) (f.finished.gate, sends fit last f, f.finished)) (end_wants fit last f)
 
   clean_refuses : (n : ℕ) → w.place.phase ≡ Guard → IsUnfitInput e → CleanEndsAs n (turn w words Refused)
   clean_refuses n guard unfit =
@@ -408,7 +408,7 @@ module _ (e : Errand) (trusted : IsTrusted e) (laws : (phase : Phase) → (phase
     where
       by_act : CleanAct e now w loan steps asked w.place.phase → CleanEndsAs (questions (turn_at g now later w words (site_of e.service w))) (honest (turn_at g now later w words (site_of e.service w)))
       by_act (Goes fit a) = by_site (site_of e.service w) a.act (acted a.walk a.left (Leads a.to)) a.site a.acts (clean_goes fit a (questions (act_tree g now w words)) a.asks)
-      by_act (Ends fit last f) = by_site (site_of e.service w) f.act (acted f.walk f.left (Leads (at Last 1))) f.site f.acts (clean_ends fit last f (questions (act_tree g now w words)))
+      by_act (Ends fit last f) = by_site (site_of e.service w) f.act (acted f.walk f.left (Leads (at Done 1))) f.site f.acts (clean_ends fit last f (questions (act_tree g now w words)))
       by_act (Unfit guard unfit site acts) = by_site (site_of e.service w) Plain (acted w words Refuses) site acts (clean_refuses (questions (act_tree g now w words)) guard unfit)
 
 -- A step behind a strike.

@@ -2,7 +2,7 @@
 use Rattle.std.proofs.Common.{◌≡◌, ℕ, ◌+◌, ◌*◌, ◌-◌, ◌^◌, ◌<◌, ◌≤◌, List, Option, Some, None, refl, sym, ap, subst, arith}
 use Rattle.sei_fault.specs.Counts.{Counts}
 use Rattle.sei_fault.specs.declared.place.Phase.{Phase}
-use Rattle.sei_fault.specs.declared.place.Phase.TheVariants.{First, Give, Send, Done as Last}
+use Rattle.sei_fault.specs.declared.place.Phase.TheVariants.{First, Give, Send, Done}
 use Rattle.sei_pass.specs.State.{PassState, budget_of}
 use Rattle.sei_stmt.specs.Machine.{Machine}
 use Rattle.sei_traverse.specs.declared.walk.Walk.{Walk}
@@ -114,10 +114,10 @@ way_still e t words begin now is way u =
     let i : InSend e t.walk (Some words) t.steps c.asked = in_this e t (Some words) begin now Send is c in
     record { reply = has_reply e t begin now i.time i.made c.asked i.end i.answered c.counted; words = ap (λ (ws : List ℕ). let o : Option (List ℕ) = Some ws in o) i.words }
 
-pub way_sent : (e : Errand) (t : TraversalState) (lent : Option (List ℕ)) (begin now : Counts) → t.walk.place.phase ≡ Last → OnWay e t lent begin now → now.struck ≡ begin.struck → HasReply e t begin now
+pub way_sent : (e : Errand) (t : TraversalState) (lent : Option (List ℕ)) (begin now : Counts) → t.walk.place.phase ≡ Done → OnWay e t lent begin now → now.struck ≡ begin.struck → HasReply e t begin now
 way_sent e t lent begin now is way u =
     let c = way.clean u in
-    let i : InDone e t.walk t.steps c.asked = in_this e t lent begin now Last is c in
+    let i : InDone e t.walk t.steps c.asked = in_this e t lent begin now Done is c in
     has_reply e t begin now i.time i.made c.asked i.end i.answered c.counted
 
 pub end_finished : (e : Errand) (t : TraversalState) (begin now : Counts) → AtEnd e t begin now → now.struck ≡ begin.struck → HasReply e t begin now

@@ -5,7 +5,7 @@ use Rattle.sei_fault.specs.declared.place.Phase.{Phase}
 use Rattle.sei_fault.specs.declared.place.Place.{Place}
 use Rattle.sei_fault.specs.Phases.{phase_number}
 use Rattle.sei_fault.specs.Tree.{Tree, bound}
-use Rattle.sei_fault.specs.Tree.Tree.{Done}
+use Rattle.sei_fault.specs.Tree.Tree.{Done as Ended}
 use Rattle.sei_gate.specs.Closing.{closing}
 use Rattle.sei_traverse.specs.declared.turned.Want.{Want}
 use Rattle.sei_traverse.specs.declared.walk.Ending.{Ending}
@@ -22,7 +22,7 @@ abbrev pub acted : Walk → List ℕ → Ending → Acted
 acted w words e = record { walk = w; words = words; ending = e }
 
 abbrev pub ends : Walk → List ℕ → Ending → Tree Acted
-ends w words e = Done (acted w words e)
+ends w words e = Ended (acted w words e)
 
 -- a place by its phase and index
 abbrev pub at : Phase → ℕ → Place

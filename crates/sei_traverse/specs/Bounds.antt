@@ -3,7 +3,7 @@ use Rattle.std.specs.Prelude.{◌≡◌, ℕ, ◌+◌, ◌*◌, ◌≤◌, min}
 use Rattle.mc_model.specs.declared.geometry.Geometry.{Geometry}
 use Rattle.sei_fault.specs.Counts.{Counts}
 use Rattle.sei_fault.specs.declared.place.Phase.{Phase}
-use Rattle.sei_fault.specs.declared.place.Phase.TheVariants.{Guard, Take, First, Restore, Second, Compare, Verify, Enter, Give, Send, Done as Last}
+use Rattle.sei_fault.specs.declared.place.Phase.TheVariants.{Guard, Take, First, Restore, Second, Compare, Verify, Enter, Give, Send, Done}
 use Rattle.sei_pass.specs.State.{budget_of}
 use Rattle.sei_traverse.specs.declared.turned.State.{State}
 use Rattle.sei_traverse.specs.declared.turned.State.TheVariants.{Went, Finished, Refused, Aborted}
@@ -23,7 +23,7 @@ place_number g Verify index = 7 + 2 * log_room g + min index (log_room g + 1)
 place_number g Enter index = 9 + 3 * log_room g
 place_number g Give index = 10 + 3 * log_room g
 place_number g Send index = 11 + 3 * log_room g
-place_number g Last index = 12 + 3 * log_room g
+place_number g Done index = 12 + 3 * log_room g
 
 -- the last of these numbers
 abbrev pub last_number : Geometry → ℕ

@@ -3,7 +3,7 @@ use Rattle.std.specs.Prelude.{◌≡◌, ◌≢◌, ℕ, ◌+◌, ◌*◌, ◌-�
 use Rattle.sei_fault.specs.Counts.{Counts}
 use Rattle.sei_fault.specs.Phases.{phase_number}
 use Rattle.sei_fault.specs.declared.place.Phase.{Phase}
-use Rattle.sei_fault.specs.declared.place.Phase.TheVariants.{Guard, Take, Enter, Give, Send, Done as Last}
+use Rattle.sei_fault.specs.declared.place.Phase.TheVariants.{Guard, Take, Enter, Give, Send, Done}
 use Rattle.sei_words.specs.Words.{BucketWords}
 use Rattle.sei_pass.specs.Setting.{is_intact}
 use Rattle.sei_traverse.specs.declared.turned.State.{State}
@@ -60,7 +60,7 @@ abbrev pub LendsIn : ℕ → Phase → Option BucketWords → Type 0
 LendsIn wanted Guard loan = loan ≡ None
 LendsIn wanted Take loan = loan ≡ None
 LendsIn wanted Send loan = loan ≡ None
-LendsIn wanted Last loan = loan ≡ None
+LendsIn wanted Done loan = loan ≡ None
 LendsIn wanted phase loan = LendsBucketOf wanted loan
 
 -- the gate closed as many phases as stand before the walk's own
@@ -161,7 +161,7 @@ pub record IsLikeWalk (old new : Walk) : Type 0 where
 
 -- a step keeps what is known; what must hold where it wants that, holds, and is wanted once; a caller who lends what was
 -- wanted lends it again where it follows the wants; what is lost stays lost, and does not finish; and from the step of
--- Enter on, the words that are lent and the reply stay as they are
+-- Enter on, as long as no phase was left without its closing, the words that are lent and the reply stay as they are
 pub record Isolates (e : Errand) (old new : TraversalState) (loan left : Option BucketWords) (begin now : Counts) (want : Want) (state : State) : Type 0 where
   pub goes : FactsAfter e new (lent_words left) begin now state
   pub wants : Wants e new left begin now want

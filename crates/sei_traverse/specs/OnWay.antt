@@ -3,7 +3,7 @@ use Rattle.std.specs.Prelude.{◌≡◌, ℕ, false, ◌+◌, ◌-◌, ◌^◌, 
 use Rattle.std.specs.Option.{option_map}
 use Rattle.sei_fault.specs.Counts.{Counts}
 use Rattle.sei_fault.specs.declared.place.Phase.{Phase}
-use Rattle.sei_fault.specs.declared.place.Phase.TheVariants.{Guard, Take, Send, Done as Last}
+use Rattle.sei_fault.specs.declared.place.Phase.TheVariants.{Guard, Take, Send, Done}
 use Rattle.sei_words.specs.Words.{BucketWords}
 use Rattle.sei_traverse.specs.declared.turned.State.{State}
 use Rattle.sei_traverse.specs.declared.turned.State.TheVariants.{Went, Finished, Refused, Aborted}
@@ -30,7 +30,7 @@ abbrev pub Lends : Errand → Phase → Option BucketWords → Type 0
 Lends e Guard loan = loan ≡ None
 Lends e Take loan = loan ≡ None
 Lends e Send loan = loan ≡ None
-Lends e Last loan = loan ≡ None
+Lends e Done loan = loan ≡ None
 Lends e phase loan = LendsBucket e loan
 
 -- a step's clock is the errand's: it tells the same, or the errand says nothing of what it tells

@@ -14,7 +14,7 @@ use Rattle.sei_traverse.specs.declared.walk.Walk.{Walk}
 use Rattle.sei_traverse.specs.Acts.{Acted, ends, at, closes}
 use Rattle.sei_traverse.specs.Service.{Given, setting_in}
 
--- the pass of this geometry whose machine is that one
+-- this pass with the machine's registers, lists, output code and number of statements
 abbrev pub pass_of : PassState → Machine → PassState
 pass_of p m = record p { registers = m.registers; input = m.input; output = m.output; bytes = m.bytes; code = m.code; made = m.made }
 
@@ -30,7 +30,7 @@ with_first w m = record w { first = pass_of w.first m; first_log = m.log; notes 
 abbrev pub with_second : Walk → Machine → Walk
 with_second w m = record w { second = pass_of w.second m; second_log = m.log; notes = m.notes }
 
--- a statement leads to the next one, and Halt closes the pass
+-- a statement leads to the next one, and Halt closes the phase
 
 abbrev pub first_from : Walk → List ℕ → Outcome → Tree Acted
 first_from w words (Next index) = ends w words (Leads (at First index))

@@ -6,7 +6,7 @@ use Rattle.sei_code.specs.Kept.{emptied}
 use Rattle.mc_model.specs.declared.geometry.Geometry.{Geometry}
 use Rattle.sei_fault.specs.declared.cause.AbortCause.{AbortCause}
 use Rattle.sei_fault.specs.declared.cause.AbortCause.TheVariants.{Range, Differs, Reply as Replies, Wire as Wires}
-use Rattle.sei_fault.specs.declared.place.Phase.TheVariants.{Guard, Take, First, Restore, Second, Compare, Verify, Enter, Give, Send, Done as Last}
+use Rattle.sei_fault.specs.declared.place.Phase.TheVariants.{Guard, Take, First, Restore, Second, Compare, Verify, Enter, Give, Send, Done}
 use Rattle.sei_fault.specs.Question.Question.{Value, Written, Test}
 use Rattle.sei_fault.specs.Tree.{Tree, bound}
 use Rattle.sei_fault.specs.Tree.Tree.{Ask}
@@ -88,7 +88,7 @@ word_to w words index (Err cause) = ends w words (Aborts cause)
 abbrev pub reply_of : Walk → List ℕ
 reply_of w = w.second.bytes.items
 
--- the copy is the reply, the first one stored through the core
+-- the copy is the reply, its first byte stored through the core
 abbrev pub copy_bytes : Walk → List ℕ → ℕ → List ℕ → Tree Acted
 copy_bytes w words index [] = ends (record w { wire = emptied w.wire }) words (Leads (at Verify (index + 1)))
 copy_bytes w words index (byte ∷ bytes) =
@@ -109,7 +109,7 @@ verify_tree index w words =
     then bound (word_at words (slice_get w.second_log.items index)) (word_to w words index)
     else verify_copy index w words
 
--- Enter, Give, Send and Done are closed, each with its want; a reply that is empty is not sent
+-- Enter, Give and Send are closed, each with its want, and Done, which wants nothing; a reply that is empty is not sent
 
 abbrev pub send_want : List ℕ → Want
 send_want [] = Nothing
@@ -122,7 +122,7 @@ abbrev pub give_tree : Walk → List ℕ → Tree Acted
 give_tree w words = closes Give w words WantGive (at Send 0)
 
 abbrev pub send_tree : Walk → List ℕ → Tree Acted
-send_tree w words = closes Send w words (send_want (reply_of w)) (at Last 0)
+send_tree w words = closes Send w words (send_want (reply_of w)) (at Done 0)
 
 abbrev pub done_tree : Walk → List ℕ → Tree Acted
-done_tree w words = closes Last w words Nothing (at Last 1)
+done_tree w words = closes Done w words Nothing (at Done 1)

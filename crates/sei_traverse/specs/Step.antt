@@ -6,7 +6,7 @@ use Rattle.sei_fault.specs.declared.cause.AbortCause.TheVariants.{Gate, Table}
 use Rattle.sei_fault.specs.declared.place.Act.{Act}
 use Rattle.sei_fault.specs.declared.place.Act.TheVariants.{Plain, Halt}
 use Rattle.sei_fault.specs.declared.place.Phase.{Phase}
-use Rattle.sei_fault.specs.declared.place.Phase.TheVariants.{Guard, Take, First, Restore, Second, Compare, Verify, Enter, Give, Send, Done as Last}
+use Rattle.sei_fault.specs.declared.place.Phase.TheVariants.{Guard, Take, First, Restore, Second, Compare, Verify, Enter, Give, Send, Done}
 use Rattle.sei_fault.specs.declared.place.Place.{Place}
 use Rattle.sei_fault.specs.declared.place.Times.{Times}
 use Rattle.sei_fault.specs.declared.place.Times.TheVariants.{Once, Skip, Twice}
@@ -14,7 +14,7 @@ use Rattle.sei_fault.specs.Phases.{phase_number}
 use Rattle.sei_fault.specs.Question.{Question, Answer}
 use Rattle.sei_fault.specs.Question.Question.{Often, Goes}
 use Rattle.sei_fault.specs.Tree.{Tree, Runs, bound}
-use Rattle.sei_fault.specs.Tree.Tree.{Done, Ask}
+use Rattle.sei_fault.specs.Tree.Tree.{Done as Ended, Ask}
 use Rattle.sei_pass.specs.Acts.{act_of}
 use Rattle.sei_pass.specs.Steps.{IsAnswer}
 use Rattle.sei_traverse.specs.declared.turned.State.{State}
@@ -41,7 +41,7 @@ act_in g now Verify index w words = verify_tree index w words
 act_in g now Enter index w words = enter_tree w words
 act_in g now Give index w words = give_tree w words
 act_in g now Send index w words = send_tree w words
-act_in g now Last index w words = done_tree w words
+act_in g now Done index w words = done_tree w words
 
 abbrev pub act_tree : Given → ℕ → Walk → List ℕ → Tree Acted
 act_tree g now w words = act_in g now w.place.phase w.place.index w words
@@ -62,7 +62,7 @@ site_in s w Verify index = plain_below (length w.second_log.items + 2) index
 site_in s w Enter index = plain_below 1 index
 site_in s w Give index = plain_below 1 index
 site_in s w Send index = plain_below 1 index
-site_in s w Last index = plain_below 1 index
+site_in s w Done index = plain_below 1 index
 
 abbrev pub site_of : Service → Walk → Option Act
 site_of s w = site_in s w w.place.phase w.place.index
@@ -80,8 +80,8 @@ next_phase Compare = Verify
 next_phase Verify = Enter
 next_phase Enter = Give
 next_phase Give = Send
-next_phase Send = Last
-next_phase Last = Last
+next_phase Send = Done
+next_phase Done = Done
 
 abbrev pub is_halt : Act → Bool
 is_halt Halt = true
@@ -98,7 +98,7 @@ is_last w Verify index act = index == length w.second_log.items + 1
 is_last w Enter index act = true
 is_last w Give index act = true
 is_last w Send index act = true
-is_last w Last index act = false  -- behind Done 0 comes Done 1, the end
+is_last w Done index act = false  -- behind Done 0 comes Done 1, the end
 
 abbrev pub skipped : Walk → Act → Place
 skipped w act = if is_last w w.place.phase w.place.index act then at (next_phase w.place.phase) 0 else at w.place.phase (w.place.index + 1)
@@ -125,13 +125,13 @@ arrival phase p done = if is_end p then (if done == 11 then Finished else aborte
 
 -- the core is asked for the next place
 abbrev pub goes : Walk → List ℕ → Place → Tree Turn
-goes w words to = Ask (Goes to) (λ p. Done (turn (record w { place = p }) words (arrival w.place.phase p w.gate.done)))
+goes w words to = Ask (Goes to) (λ p. Ended (turn (record w { place = p }) words (arrival w.place.phase p w.gate.done)))
 
 -- where an act leads, unless it ended the traversal. What it wants is wanted in each case
 abbrev pub unless_ended : (Place → Tree Turn) → Walk → List ℕ → Ending → Tree Turn
 unless_ended on w words (Leads to) = on to
-unless_ended on w words Refuses = Done (turn w words Refused)
-unless_ended on w words (Aborts cause) = Done (turn w words (aborted w.place.phase cause))
+unless_ended on w words Refuses = Ended (turn w words Refused)
+unless_ended on w words (Aborts cause) = Ended (turn w words (aborted w.place.phase cause))
 
 abbrev pub goes_from : Walk → List ℕ → Ending → Tree Turn
 goes_from w words ending = unless_ended (goes w words) w words ending
@@ -155,7 +155,7 @@ turn_as g now later w words act Skip = goes w words (skipped w act)
 turn_as g now later w words act Twice = bound (act_tree g now w words) (twice g later)
 
 abbrev pub turn_at : Given → ℕ → ℕ → Walk → List ℕ → Option Act → Tree Turn
-turn_at g now later w words None = Done (turn w words (aborted w.place.phase (Table w.place.index)))
+turn_at g now later w words None = Ended (turn w words (aborted w.place.phase (Table w.place.index)))
 turn_at g now later w words (Some act) = Ask (Often (record { place = w.place; act = act })) (turn_as g now later w words act)
 
 -- a step: how often its act is made, the act, and the next place. The clock answers `now` to the act, and `later` where

@@ -3,7 +3,7 @@ use Rattle.std.specs.Prelude.{◌≡◌, ◌≢◌, ℕ, ◌-◌, ◌<◌, ◌�
 use Rattle.sei_code.specs.Coded.{sealed}
 use Rattle.sei_code.specs.Kept.{Kept, empty_kept}
 use Rattle.sei_fault.specs.declared.place.Phase.{Phase}
-use Rattle.sei_fault.specs.declared.place.Phase.TheVariants.{Guard, Take, First, Restore, Second, Compare, Verify, Enter, Give, Send, Done as Last}
+use Rattle.sei_fault.specs.declared.place.Phase.TheVariants.{Guard, Take, First, Restore, Second, Compare, Verify, Enter, Give, Send, Done}
 use Rattle.sei_log.specs.Changes.{undone, applied, Stands, SameOff}
 use Rattle.sei_log.specs.declared.log.Change.{Change}
 use Rattle.sei_log.specs.declared.notes.Notes.{Notes}
@@ -195,4 +195,4 @@ StruckIn e w lent asked Verify = On lent (λ words. VerifyStruck e w words asked
 StruckIn e w lent asked Enter = On lent (λ words. EnterStruck e w words asked)
 StruckIn e w lent asked Give = On lent (λ words. EnterStruck e w words asked)
 StruckIn e w lent asked Send = SendStruck e w asked
-StruckIn e w lent asked Last = SendStruck e w asked
+StruckIn e w lent asked Done = SendStruck e w asked

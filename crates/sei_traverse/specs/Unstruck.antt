@@ -2,7 +2,7 @@
 use Rattle.std.specs.Prelude.{◌≡◌, ℕ, zero, suc, ◌+◌, ◌*◌, ◌≤◌, List, length, Option, Some, None, ⊤}
 use Rattle.sei_code.specs.Kept.{empty_kept}
 use Rattle.sei_fault.specs.declared.place.Phase.{Phase}
-use Rattle.sei_fault.specs.declared.place.Phase.TheVariants.{Guard, Take, First, Restore, Second, Compare, Verify, Enter, Give, Send, Done as Last}
+use Rattle.sei_fault.specs.declared.place.Phase.TheVariants.{Guard, Take, First, Restore, Second, Compare, Verify, Enter, Give, Send, Done}
 use Rattle.sei_fault.specs.Phases.{phase_number}
 use Rattle.sei_log.specs.declared.log.Change.{Change}
 use Rattle.sei_restore.specs.Undoing.{restored}
@@ -222,7 +222,7 @@ pub record InSend (e : Errand) (w : Walk) (lent : Option (List ℕ)) (steps aske
   pub number : steps ≤ before_enter made (length end.log.items) + 2
 
 pub record InDone (e : Errand) (w : Walk) (steps asked : ℕ) : Type 0 where
-  pub is : IsOf e w Last
+  pub is : IsOf e w Done
   pub time : ℕ
   pub made : ℕ
   pub end : Machine
@@ -232,7 +232,7 @@ pub record InDone (e : Errand) (w : Walk) (steps asked : ℕ) : Type 0 where
 
 -- at its end
 pub record IsFinished (e : Errand) (w : Walk) (steps asked : ℕ) : Type 0 where
-  pub place : w.place ≡ at Last 1
+  pub place : w.place ≡ at Done 1
   pub gate : w.gate.done ≡ 11
   pub time : ℕ
   pub made : ℕ
@@ -251,7 +251,7 @@ CleanIn e w lent steps asked Verify = InVerify e w lent steps asked
 CleanIn e w lent steps asked Enter = InEnter e w lent steps asked
 CleanIn e w lent steps asked Give = InGive e w lent steps asked
 CleanIn e w lent steps asked Send = InSend e w lent steps asked
-CleanIn e w lent steps asked Last = InDone e w steps asked
+CleanIn e w lent steps asked Done = InDone e w steps asked
 
 -- what the act of a phase wants without a strike
 abbrev pub take_want : Errand → ℕ → Want
@@ -270,7 +270,7 @@ abbrev pub IsLent : Phase → Type 0
 IsLent Guard = ⊥
 IsLent Take = ⊥
 IsLent Send = ⊥
-IsLent Last = ⊥
+IsLent Done = ⊥
 IsLent phase = ⊤
 
 -- the phase behind a step without a strike, as far as what is lent goes
@@ -279,8 +279,8 @@ NextIn Guard index next = next ≡ Take
 NextIn Take zero next = next ≡ Take
 NextIn Take (suc index) next = next ≡ First
 NextIn Give index next = next ≡ Send
-NextIn Send index next = next ≡ Last
-NextIn Last index next = next ≡ Last
+NextIn Send index next = next ≡ Done
+NextIn Done index next = next ≡ Done
 NextIn phase index next = IsLent next
 
 -- a traversal that nothing struck, at one of its steps
