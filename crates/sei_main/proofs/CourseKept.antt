@@ -81,6 +81,7 @@ begun_laid_out g sealed valid = record {
   first_room = refl;
   second_room = refl;
   wire_room = refl;
+  wire_fits = omega arith;
 }
 
 module _ (g : Geometry) (text : List ℕ) (now : ℕ) (buckets : List BucketWords) (s : Server) (sealed : Sealed) (p : Placed)

@@ -1,5 +1,5 @@
 -- Whatever a core answers, a step keeps what was sealed, the layout of the walk, and the number of the words.
-use Rattle.std.proofs.Common.{◌≡◌, ℕ, ◌+◌, ◌-◌, ◌≤◌, Bool, true, false, List, [], ◌∷◌, length, Option, Some, None, refl, sym, ap, ◌∙◌, subst, arith}
+use Rattle.std.proofs.Common.{◌≡◌, ℕ, ◌+◌, ◌-◌, ◌%◌, ◌^◌, ◌≤◌, Bool, true, false, List, [], ◌∷◌, length, Option, Some, None, refl, sym, ap, ◌∙◌, subst, arith}
 use Rattle.std.specs.Prelude.{slice_get, if◌then◌else◌, ◌==◌, nat_lt}
 use Rattle.std.specs.declared.result.Result.{Result}
 use Rattle.std.specs.declared.result.Result.TheVariants.{Ok, Err}
@@ -20,6 +20,7 @@ use Rattle.sei_fault.specs.Tree.Tree.{Done as Ended, Ask}
 use Rattle.sei_gate.specs.Closing.{risen}
 use Rattle.sei_log.specs.declared.log.Change.{Change}
 use Rattle.sei_stmt.specs.declared.stmt.Stmt.{Stmt}
+use Rattle.sei_stmt.specs.Handling.{refilled}
 use Rattle.sei_stmt.specs.Machine.{Machine, Setting, Outcome, After}
 use Rattle.sei_stmt.specs.Machine as machines
 use Rattle.sei_stmt.specs.Machine.Outcome.{Next, Halted, Bad}
@@ -105,8 +106,8 @@ module _ (k : Geometry) where
     long = b.long ∙ a.long;
   }
 
-  -- the passes, the logs and the room of the copy are the same
-  like : (w v : Walk) (words left : List ℕ) → v.sealed ≡ w.sealed → v.first ≡ w.first → v.second ≡ w.second → v.first_log ≡ w.first_log → v.second_log ≡ w.second_log → v.wire.room ≡ w.wire.room →
+  -- the passes, the logs and the copy are the same
+  like : (w v : Walk) (words left : List ℕ) → v.sealed ≡ w.sealed → v.first ≡ w.first → v.second ≡ w.second → v.first_log ≡ w.first_log → v.second_log ≡ w.second_log → v.wire ≡ w.wire →
       length left ≡ length words → KeepsWalk k w words v left
   like w v words left sealed first second first_log second_log wire long = record {
     sealed = sealed;
@@ -119,7 +120,27 @@ module _ (k : Geometry) where
       second_log = subst (λ (p : PassState). length v.second_log.items ≤ log_room p.geometry) (sym first) (subst (λ (l : Kept Change). length l.items ≤ log_room w.first.geometry) (sym second_log) is.second_log);
       first_room = ap (λ (l : Kept Change). l.room) first_log ∙ is.first_room ∙ sym (ap (λ (p : PassState). log_room p.geometry) first);
       second_room = ap (λ (l : Kept Change). l.room) second_log ∙ is.second_room ∙ sym (ap (λ (p : PassState). log_room p.geometry) first);
-      wire_room = wire ∙ is.wire_room ∙ sym (ap (λ (p : PassState). bytes_room p.geometry) first);
+      wire_room = ap (λ (l : Kept ℕ). l.room) wire ∙ is.wire_room ∙ sym (ap (λ (p : PassState). bytes_room p.geometry) first);
+      wire_fits = subst (λ (l : Kept ℕ). length l.items ≤ l.room) (sym wire) is.wire_fits;
+    };
+    long = long;
+  }
+
+  -- the copy is made anew, of no more bytes than the reply has
+  copied : (w : Walk) (words left bytes : List ℕ) → length bytes ≤ length (reply_of w) → length left ≡ length words → KeepsWalk k w words (record w { wire = refilled w.wire bytes }) left
+  copied w words left bytes few long = record {
+    sealed = refl;
+    geometry = refl;
+    walk = λ is here. record {
+      first = is.first;
+      second = is.second;
+      same = is.same;
+      first_log = is.first_log;
+      second_log = is.second_log;
+      first_room = is.first_room;
+      second_room = is.second_room;
+      wire_room = is.wire_room;
+      wire_fits = omega (arith, few, is.second.bytes_fit, is.second.bytes, ap bytes_room is.same, is.wire_room);
     };
     long = long;
   }
@@ -151,6 +172,7 @@ module _ (k : Geometry) where
       first_room = r.log ∙ is.first_room;
       second_room = is.second_room;
       wire_room = is.wire_room;
+      wire_fits = is.wire_fits;
     };
     long = r.words;
   }
@@ -168,6 +190,7 @@ module _ (k : Geometry) where
       first_room = is.first_room;
       second_room = r.log ∙ is.second_room;
       wire_room = is.wire_room;
+      wire_fits = is.wire_fits;
     };
     long = r.words;
   }
@@ -177,7 +200,7 @@ module _ (k : Geometry) where
     KeptBy y = KeepsWalk k w before y.walk y.words
 
     -- a walk of which only the place, the gate, the wanted bucket and the want changed
-    so : (v : Walk) (words : List ℕ) → v.sealed ≡ w.sealed → v.first ≡ w.first → v.second ≡ w.second → v.first_log ≡ w.first_log → v.second_log ≡ w.second_log → v.wire.room ≡ w.wire.room → length words ≡ length before → KeepsWalk k w before v words
+    so : (v : Walk) (words : List ℕ) → v.sealed ≡ w.sealed → v.first ≡ w.first → v.second ≡ w.second → v.first_log ≡ w.first_log → v.second_log ≡ w.second_log → v.wire ≡ w.wire → length words ≡ length before → KeepsWalk k w before v words
     so v words a b c d e f g = like w v before words a b c d e f g
 
     -- one that closes a phase, on a walk that was kept
@@ -280,9 +303,9 @@ module _ (k : Geometry) where
     kept_word index words long (Ok b) = word_same index words long b
     kept_word index words long (Err cause) = same words long
 
-    kept_copy : (index : ℕ) (words bytes : List ℕ) → length words ≡ length before → Always KeptBy (copy_bytes w words index bytes)
-    kept_copy index words [] long = so _ words refl refl refl refl refl refl long
-    kept_copy index words (byte ∷ bytes) long = λ b. so _ words refl refl refl refl refl refl long
+    kept_copy : (index : ℕ) (words bytes : List ℕ) → length bytes ≤ length (reply_of w) → length words ≡ length before → Always KeptBy (copy_bytes w words index bytes)
+    kept_copy index words [] few long = copied w before words [] few long
+    kept_copy index words (byte ∷ bytes) few long = λ b. copied w before words (b % 2 ^ 8 ∷ bytes) few long
 
     kept_wire : (words : List ℕ) → length words ≡ length before → (b : Bool) → Always KeptBy (wire_to w words b)
     kept_wire words long true = kept_closes Verify w words Nothing (at Enter 0) (same words long)
@@ -290,7 +313,7 @@ module _ (k : Geometry) where
 
     behind_words : (index : ℕ) (words : List ℕ) → length words ≡ length before → (b : Bool) →
         Always KeptBy (if b then copy_bytes w words index (reply_of w) else bound (wire_tree w.sealed.answer w.first.code w.first.bytes.items w.wire.items) (wire_to w words))
-    behind_words index words long true = kept_copy index words (reply_of w) long
+    behind_words index words long true = kept_copy index words (reply_of w) (omega arith) long
     behind_words index words long false = always_any KeptBy (wire_tree w.sealed.answer w.first.code w.first.bytes.items w.wire.items) (wire_to w words) (λ b. kept_wire words long b)
 
     kept_verify : (index : ℕ) (words : List ℕ) → length words ≡ length before → (b : Bool) →

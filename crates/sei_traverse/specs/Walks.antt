@@ -8,7 +8,7 @@ use Rattle.sei_traverse.specs.declared.walk.Walk.{Walk}
 abbrev pub log_room : Geometry → ℕ
 log_room g = 48 + g.slots + g.value_words
 
--- both passes are of this geometry, the logs have their rooms and fit into them, and the copy for the wire has its room
+-- both passes are of this geometry, and the logs and the copy for the wire have their rooms and fit into them
 pub record IsWalk (w : Walk) : Type 0 where
   pub first : IsPass w.first
   pub second : IsPass w.second
@@ -18,6 +18,7 @@ pub record IsWalk (w : Walk) : Type 0 where
   pub first_room : w.first_log.room ≡ log_room w.first.geometry
   pub second_room : w.second_log.room ≡ log_room w.first.geometry
   pub wire_room : w.wire.room ≡ bytes_room w.first.geometry
+  pub wire_fits : length w.wire.items ≤ w.wire.room
 
 -- what each act and step leaves as it is
 pub record Stays (w v : Walk) : Type 0 where
