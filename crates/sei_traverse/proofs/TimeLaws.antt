@@ -220,6 +220,18 @@ agrees_on g first t i m lt a = by_statement (asks (slice_get g.statements i))
         subst (λ (x : Tree After). Agrees (honest x).machine.notes.now t) (sym (timed_step g m i to t first is)) (agrees_timed m i to t (nat_lt m.made g.budget) lt a)
     by_statement (Untimed other) = subst (λ o. Agrees o t) (sym (now_kept (at_time g t) i m (slice_get g.statements i) first other)) a
 
+agrees_from : (g : Setting) → g.reading ≡ false → (t : ℕ) (m : Machine) (o : Outcome) → t < 2 ^ 64 → Agrees m.notes.now t → Agrees (onward_from (at_time g t) m o).machine.notes.now t
+agrees_from g first t m (Next i) lt a = agrees_on g first t i m lt a
+agrees_from g first t m Halted lt a = a
+agrees_from g first t m (Bad cause) lt a = a
+
+-- and behind any number of such steps
+pub agrees_behind : (g : Setting) → g.reading ≡ false → (start : Machine) (t n : ℕ) → t < 2 ^ 64 → Agrees start.notes.now t → Agrees (after (at_time g t) start n).machine.notes.now t
+agrees_behind g first start t zero lt a = a
+agrees_behind g first start t (suc n) lt a =
+    let x = after (at_time g t) start n in
+    agrees_from g first t x.machine x.outcome lt (agrees_behind g first start t n lt a)
+
 -- how a first pass ends
 
 -- behind the end of a run the stage stays

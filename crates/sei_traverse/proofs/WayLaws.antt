@@ -4,9 +4,11 @@ use Rattle.sei_fault.specs.Counts.{Counts}
 use Rattle.sei_fault.specs.declared.place.Phase.{Phase}
 use Rattle.sei_fault.specs.declared.place.Phase.TheVariants.{First, Give, Send, Done}
 use Rattle.sei_pass.specs.State.{PassState, budget_of}
-use Rattle.sei_stmt.specs.Machine.{Machine}
+use Rattle.sei_log.specs.declared.notes.Notes.{Notes}
+use Rattle.sei_stmt.specs.Machine.{Machine, After}
 use Rattle.sei_traverse.specs.declared.walk.Walk.{Walk}
-use Rattle.sei_traverse.specs.Errand.{Errand, IsErrand}
+use Rattle.sei_traverse.specs.Comes.{Agrees}
+use Rattle.sei_traverse.specs.Errand.{Errand, IsErrand, Whole, first_setting, first_start}
 use Rattle.sei_traverse.specs.OnWay.{IsClean, OnWay, AtEnd}
 use Rattle.sei_traverse.specs.Served.{HasReply, IsServed}
 use Rattle.sei_traverse.specs.State.{TraversalState, begun}
@@ -14,6 +16,7 @@ use Rattle.sei_traverse.specs.Unstruck.{SecondIsDone, CleanIn, InGive, InSend, I
 use Rattle.sei_traverse.specs.Walks.{log_room}
 use Rattle.sei_traverse.proofs.EdgeActs.{lends}
 use Rattle.sei_traverse.proofs.Settled.{bounded, bounded_end}
+use Rattle.sei_traverse.proofs.TimeLaws.{agrees_behind}
 
 pub way_begins : (e : Errand) (c : Counts) → OnWay e (begun e.geometry e.sealed) None c c
 way_begins e c = record {
@@ -72,6 +75,12 @@ end_ends e t begin now way u = let c = way.clean u in bounded_end e t.walk t.ste
 reply_is : (e : Errand) (w : Walk) (end : Machine) → SecondIsDone e w end → w.second.bytes.items ≡ end.bytes.items
 reply_is e w end h = ap (λ (p : PassState). p.bytes.items) h.second
 
+-- where a whole first pass noted a time, it is the time of the run
+by_noted : (e : Errand) (time made : ℕ) (end : Machine) (notes : Notes) → Whole e time made end → notes ≡ end.notes → Agrees notes.now time
+by_noted e time made end notes whole is =
+    subst (λ (n : Notes). Agrees n.now time) (sym is)
+    (subst (λ (x : After). Agrees x.machine.notes.now time) whole.run.halts (agrees_behind (first_setting e) refl (first_start e) time made whole.small whole.small))
+
 has_reply : (e : Errand) (t : TraversalState) (begin now : Counts) (time made asked : ℕ) (end : Machine) → IsAnswered e t.walk time made end asked →
     (now.asked < 2 ^ 128 - 1 → begin.asked + asked ≤ now.asked) → HasReply e t begin now
 has_reply e t begin now time made asked end a counted = record {
@@ -79,6 +88,7 @@ has_reply e t begin now time made asked end a counted = record {
   made = made;
   end = end;
   whole = a.whole;
+  noted = by_noted e time made end t.walk.notes a.whole a.notes;
   reply = reply_is e t.walk end a.second;
   wire = a.copy;
   twice = λ m. omega (arith, counted m, a.questions);
@@ -94,6 +104,7 @@ way_entered e t lent begin now is way u =
         made = i.made;
         end = i.end;
         whole = i.both.whole;
+        noted = by_noted e i.time i.made i.end t.walk.notes i.both.whole i.both.first.notes;
         reply = reply_is e t.walk i.end i.both.second;
         wire = i.copy;
         twice = λ m. omega (arith, c.counted m, i.both.questions);

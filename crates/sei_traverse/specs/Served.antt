@@ -2,17 +2,20 @@
 use Rattle.std.specs.Prelude.{◌≡◌, ℕ, ◌+◌, ◌*◌, ◌-◌, ◌^◌, ◌<◌, ◌≤◌, List, Option, Some}
 use Rattle.sei_fault.specs.Counts.{Counts}
 use Rattle.sei_stmt.specs.Machine.{Machine}
+use Rattle.sei_traverse.specs.Comes.{Agrees}
 use Rattle.sei_traverse.specs.Errand.{Errand, Whole}
 use Rattle.sei_traverse.specs.Phases.{reply_of}
 use Rattle.sei_traverse.specs.State.{TraversalState}
 use Rattle.sei_traverse.specs.Unstruck.{first_questions}
 
--- the reply and the copy for the wire are the output of an honest run, and twice as many questions were asked as it asks
+-- the reply and the copy for the wire are the output of an honest run, which is by the noted time where one was noted, and
+-- twice as many questions were asked as it asks
 pub record HasReply (e : Errand) (t : TraversalState) (begin now : Counts) : Type 0 where
   pub time : ℕ
   pub made : ℕ
   pub end : Machine
   pub whole : Whole e time made end
+  pub noted : Agrees t.walk.notes.now time
   pub reply : reply_of t.walk ≡ end.bytes.items
   pub wire : t.walk.wire.items ≡ end.bytes.items
   pub twice : now.asked < 2 ^ 128 - 1 → begin.asked + 2 * first_questions e time made ≤ now.asked
