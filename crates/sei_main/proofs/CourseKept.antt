@@ -1,5 +1,5 @@
 -- All steps of the traversal of a call under a planned fault.
-use Rattle.std.proofs.Common.{◌≡◌, inl, ℕ, zero, suc, ◌+◌, ◌^◌, ◌<◌, ◌≤◌, List, Option, refl, sym, ap, ◌∙◌, subst, arith}
+use Rattle.std.proofs.Common.{◌≡◌, inl, ℕ, zero, suc, ◌+◌, ◌^◌, ◌<◌, ◌≤◌, List, length, Option, Some, None, refl, sym, ap, ◌∙◌, subst, arith}
 use Rattle.mc_model.specs.declared.geometry.Geometry.{Geometry}
 use Rattle.mc_model.specs.Call.{Placed}
 use Rattle.mc_model.specs.Packed.{AreBytes}
@@ -10,7 +10,9 @@ use Rattle.sei_fault.specs.Scripted.{scripted}
 use Rattle.sei_words.specs.Loan.{words_of, bucket_of}
 use Rattle.sei_words.specs.Words.{BucketWords}
 use Rattle.sei_pass.specs.declared.given.Sealed.{Sealed}
-use Rattle.sei_pass.specs.State.{IsPass, new_pass}
+use Rattle.sei_stmt.specs.Handling.{Parsed, parsed_words}
+use Rattle.sei_pass.specs.Setting.{sealed_call}
+use Rattle.sei_pass.specs.State.{IsPass, input_room, new_pass}
 use Rattle.sei_traverse.specs.declared.turned.State.{State}
 use Rattle.sei_traverse.specs.declared.turned.State.TheVariants.{Went, Finished, Refused, Aborted}
 use Rattle.sei_traverse.specs.declared.turned.Want.{Want}
@@ -22,6 +24,8 @@ use Rattle.sei_traverse.specs.Step.{Turn, turn_tree}
 use Rattle.sei_traverse.specs.Walks.{IsWalk}
 use Rattle.sei_traverse.proofs.FactsLaws.{facts_begin}
 use Rattle.sei_traverse.proofs.StepsBound.{steps_bounded, begun_within}
+use Rattle.sei_hand.specs.Requests.{parsed_of, parsed_call}
+use Rattle.sei_hand.proofs.InputLaws.{length_input_words}
 use Rattle.sei_main.specs.Course.{Course, loan_in, course_on, course_if, course_from, course_begun, course_of, served_behind}
 use Rattle.sei_main.specs.Errands.{service_for}
 use Rattle.sei_main.specs.Tables.{AreServer}
@@ -31,6 +35,7 @@ use Rattle.sei_main.proofs.CourseStep.{traversal, none_asked, NotesNow, kept, st
 use Rattle.sei_main.proofs.HandsTrusted.{IsSealedCall}
 use Rattle.sei_main.proofs.ScriptedRuns.{one_falls, unplanned, unplanned_stays}
 use Rattle.sei_main.proofs.TableLaws.{IsGood}
+use Rattle.sei_main.proofs.WalkKept.{FitsIn}
 
 one_more_is : (n : ℕ) → suc n < 2 ^ 64 → one_more n ≡ suc n
 one_more_is n small = omega (arith, small)
@@ -69,7 +74,7 @@ module _ (g : Geometry) (text : List ℕ) (now : ℕ) where
 
 -- a walk that begins is laid out
 begun_pass : (g : Geometry) → IsValid g → IsPass (new_pass g)
-begun_pass g valid = record { valid = valid; registers = refl; input = refl; output = refl; bytes = refl; made = omega arith; fits = omega arith; bytes_fit = omega arith }
+begun_pass g valid = record { valid = valid; registers = refl; input = refl; output = refl; bytes = refl; made = omega arith; fits = omega arith; bytes_fit = omega arith; input_fits = omega arith }
 
 begun_laid_out : (g : Geometry) (sealed : Sealed) → IsValid g → IsWalk (begun_walk g sealed)
 begun_laid_out g sealed valid = record {
@@ -89,6 +94,7 @@ module _ (g : Geometry) (text : List ℕ) (now : ℕ) (buckets : List BucketWord
   -- what is known of a course behind so many steps
   pub record OnCourse (c : Course) (steps : ℕ) : Type 0 where
     pub shape : Shape g text now buckets s sealed p c steps
+    pub of_sealed : c.walk.sealed ≡ sealed
     pub notes : NotesNow now c.walk.notes.now
     pub rooms : IsTraversal (traversal g c.walk steps)
     pub within : StepsAfter (traversal g c.walk steps) none_asked (script_counts c.core) c.served.state
@@ -97,11 +103,23 @@ module _ (g : Geometry) (text : List ℕ) (now : ℕ) (buckets : List BucketWord
   unfolding course_on
   notes_on c h = notes_now g text now c.walk (loan_in c.buckets c.lent) c.core h
 
-  rooms_on : (c : Course) (steps more : ℕ) → IsTraversal (traversal g c.walk steps) → IsTraversal (traversal g (course_on g text now c).walk more)
+  sealed_on : (c : Course) → c.walk.sealed ≡ sealed → (course_on g text now c).walk.sealed ≡ sealed
   unfolding course_on
-  rooms_on c steps more is =
+  sealed_on c h = (kept g text now c.walk (loan_in c.buckets c.lent) c.core).sealed ∙ h
+
+  -- the input words of the sealed call go in
+  fits_in : (o : Option Parsed) → ((x : Parsed) → o ≡ Some x → parsed_of g p ≡ x) → length (parsed_words o) ≤ input_room g
+  fits_in None is = omega arith
+  fits_in (Some x) is = subst (λ (y : Parsed). length y.words ≤ input_room g) (is x refl) (omega (arith, length_input_words g p.call good.read.key good.read.block))
+
+  rooms_on : (c : Course) (steps more : ℕ) → c.walk.sealed ≡ sealed → IsTraversal (traversal g c.walk steps) → IsTraversal (traversal g (course_on g text now c).walk more)
+  unfolding course_on
+  rooms_on c steps more same is =
       let k = kept g text now c.walk (loan_in c.buckets c.lent) c.core in
-      record { walk = k.walk is.walk is.geometry; geometry = k.geometry ∙ is.geometry }
+      record {
+        walk = k.walk is.walk is.geometry (subst (FitsIn g (parsed_call g text)) (sym same) (fits_in (sealed_call (parsed_call g text) sealed.nth) is_call));
+        geometry = k.geometry ∙ is.geometry;
+      }
 
   within_on : (c : Course) (steps : ℕ) → IsTraversal (traversal g c.walk steps) → StepsWithin (traversal g c.walk steps) none_asked (script_counts c.core) →
       StepsAfter (traversal g (course_on g text now c).walk (one_more steps)) none_asked (script_counts (course_on g text now c).core) (course_on g text now c).served.state
@@ -120,8 +138,9 @@ module _ (g : Geometry) (text : List ℕ) (now : ℕ) (buckets : List BucketWord
   on_course : (c : Course) (steps : ℕ) → suc steps < 2 ^ 64 → c.served.state ≡ Went → OnCourse c steps → OnCourse (course_on g text now c) (suc steps)
   on_course c steps few went h = subst (OnCourse (course_on g text now c)) (one_more_is steps few) (record {
     shape = shape_on g text now buckets s sealed p valid bytes small good is_call are c steps went h.notes h.shape;
+    of_sealed = sealed_on c h.of_sealed;
     notes = notes_on c h.notes;
-    rooms = rooms_on c steps (one_more steps) h.rooms;
+    rooms = rooms_on c steps (one_more steps) h.of_sealed h.rooms;
     within = within_on c steps h.rooms (subst (StepsAfter (traversal g c.walk steps) none_asked (script_counts c.core)) went h.within);
   })
 
@@ -170,6 +189,7 @@ module _ (g : Geometry) (text : List ℕ) (now : ℕ) (buckets : List BucketWord
       lends = λ went right. refl;
       known = λ k lt. facts_begin (errand_at g text now buckets s sealed p k) none_asked;
     });
+    of_sealed = refl;
     notes = inl refl;
     rooms = record { walk = begun_laid_out g sealed valid; geometry = refl };
     within = begun_within g sealed none_asked;

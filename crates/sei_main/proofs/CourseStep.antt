@@ -26,6 +26,7 @@ use Rattle.sei_traverse.proofs.Isolated.{isolates_one}
 use Rattle.sei_traverse.proofs.NotingLaws.{notes_time}
 use Rattle.sei_traverse.proofs.StepsBound.{steps_after_turned}
 use Rattle.sei_main.specs.Course.{turned}
+use Rattle.sei_hand.specs.Requests.{parsed_call}
 use Rattle.sei_main.specs.Errands.{service_for}
 use Rattle.sei_main.proofs.ScriptedRuns.{runs_scripted, one_falls}
 use Rattle.sei_main.proofs.WalkKept.{KeepsWalk, turn_kept}
@@ -84,9 +85,9 @@ module _ (g : Geometry) (text : List ℕ) (now : ℕ) (w : Walk) (loan : Option 
   runs = record { now = now; later = now; answer = refl; answer_later = refl; runs = runs_scripted script_answer script_next (turn_tree given now now w (words_of loan)) core }
 
   -- the walk keeps its layout, and the words their number
-  pub kept : KeepsWalk g w (words_of loan) step.0.walk step.0.words
+  pub kept : KeepsWalk g (parsed_call g text) w (words_of loan) step.0.walk step.0.words
   unfolding runs
-  kept = always gives (λ (y : Turn). KeepsWalk g w (words_of loan) y.walk y.words) (turn_tree given now now w (words_of loan)) core step.1 step.0 (turn_kept g w (words_of loan) given refl now now) runs.runs
+  kept = always gives (λ (y : Turn). KeepsWalk g (parsed_call g text) w (words_of loan) y.walk y.words) (turn_tree given now now w (words_of loan)) core step.1 step.0 (turn_kept g (parsed_call g text) w (words_of loan) given refl refl now now) runs.runs
 
   -- no other time is noted
   pub notes_now : NotesNow now w.notes.now → NotesNow now step.0.walk.notes.now

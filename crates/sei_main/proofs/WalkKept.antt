@@ -20,13 +20,15 @@ use Rattle.sei_fault.specs.Tree.Tree.{Done as Ended, Ask}
 use Rattle.sei_gate.specs.Closing.{risen}
 use Rattle.sei_log.specs.declared.log.Change.{Change}
 use Rattle.sei_stmt.specs.declared.stmt.Stmt.{Stmt}
-use Rattle.sei_stmt.specs.Handling.{refilled}
+use Rattle.sei_stmt.specs.Handling.{Parsed, parsed_words, refilled}
 use Rattle.sei_stmt.specs.Machine.{Machine, Setting, Outcome, After}
 use Rattle.sei_stmt.specs.Machine as machines
 use Rattle.sei_stmt.specs.Machine.Outcome.{Next, Halted, Bad}
 use Rattle.sei_stmt.specs.Statements.{statement_tree, found_tree, step_tree}
 use Rattle.sei_pass.specs.declared.given.Which.TheVariants.{Making, Reading}
-use Rattle.sei_pass.specs.State.{PassState, IsPass, budget_of, bytes_room}
+use Rattle.sei_pass.specs.declared.given.Sealed.{Sealed}
+use Rattle.sei_pass.specs.Setting.{sealed_call}
+use Rattle.sei_pass.specs.State.{PassState, IsPass, budget_of, input_room, bytes_room}
 use Rattle.sei_pass.proofs.RoomLaws.{Keeps, keeps}
 use Rattle.sei_restore.specs.Undoing.{Undone, undo_word, undo_at}
 use Rattle.sei_compare.specs.Comparing.{entry_tree, codes_tree, word_at, wire_tree}
@@ -51,7 +53,7 @@ always_both P Q R (Ask q k) h p o = λ a. always_both P Q R (k a) h (p a) (o a)
 
 -- a statement
 
-record Ran (budget : ℕ) (m : Machine) (x : After) : Type 0 where
+record Ran (given : List ℕ) (budget : ℕ) (m : Machine) (x : After) : Type 0 where
   registers : length x.machine.registers ≡ length m.registers
   input : x.machine.input.room ≡ m.input.room
   output : x.machine.output.room ≡ m.output.room
@@ -61,16 +63,17 @@ record Ran (budget : ℕ) (m : Machine) (x : After) : Type 0 where
   fits : length m.output.items ≤ m.output.room → length x.machine.output.items ≤ x.machine.output.room
   log_fits : length m.log.items ≤ m.log.room → length x.machine.log.items ≤ x.machine.log.room
   bytes_fit : length m.bytes.items ≤ m.bytes.room → length x.machine.bytes.items ≤ x.machine.bytes.room
+  input_fits : length given ≤ m.input.room → length m.input.items ≤ m.input.room → length x.machine.input.items ≤ x.machine.input.room
   words : length x.machine.words ≡ length m.words
 
-stays_so : (budget : ℕ) (m : Machine) (o : Outcome) → Ran budget m (record { machine = m; outcome = o })
-stays_so budget m o = record { registers = refl; input = refl; output = refl; bytes = refl; log = refl; made = λ h. h; fits = λ h. h; log_fits = λ h. h; bytes_fit = λ h. h; words = refl }
+stays_so : (given : List ℕ) (budget : ℕ) (m : Machine) (o : Outcome) → Ran given budget m (record { machine = m; outcome = o })
+stays_so given budget m o = record { registers = refl; input = refl; output = refl; bytes = refl; log = refl; made = λ h. h; fits = λ h. h; log_fits = λ h. h; bytes_fit = λ h. h; input_fits = λ few h. h; words = refl }
 
 ran_counted : (s : Setting) (i : ℕ) (m : Machine) (st : Stmt) (enough : Bool) → nat_lt m.made s.budget ≡ enough →
-    Always (Ran s.budget m) (if enough then statement_tree s i (record m { made = m.made + 1 }) st else machines.ends m (Bad Budget))
+    Always (Ran (parsed_words s.parsed) s.budget m) (if enough then statement_tree s i (record m { made = m.made + 1 }) st else machines.ends m (Bad Budget))
 ran_counted s i m st true e =
     let from : Machine = record m { made = m.made + 1 } in
-    always_both (Keeps from) (Lasts from) (Ran s.budget m) (statement_tree s i from st)
+    always_both (Keeps (parsed_words s.parsed) from) (Lasts from) (Ran (parsed_words s.parsed) s.budget m) (statement_tree s i from st)
     (λ x k l. record {
       registers = k.registers;
       input = k.input;
@@ -81,38 +84,43 @@ ran_counted s i m st true e =
       fits = k.fits;
       log_fits = k.log_fits;
       bytes_fit = k.bytes_fit;
+      input_fits = k.input_fits;
       words = l;
     })
     (keeps s i from st) (lasts s i from st)
-ran_counted s i m st false e = stays_so s.budget m (Bad Budget)
+ran_counted s i m st false e = stays_so (parsed_words s.parsed) s.budget m (Bad Budget)
 
-ran_found : (s : Setting) (i : ℕ) (m : Machine) (o : Option Stmt) → Always (Ran s.budget m) (found_tree s i m o)
-ran_found s i m None = stays_so s.budget m _
+ran_found : (s : Setting) (i : ℕ) (m : Machine) (o : Option Stmt) → Always (Ran (parsed_words s.parsed) s.budget m) (found_tree s i m o)
+ran_found s i m None = stays_so (parsed_words s.parsed) s.budget m _
 ran_found s i m (Some st) = ran_counted s i m st (nat_lt m.made s.budget) refl
 
--- a walk and the words behind another one, in this geometry
-pub record KeepsWalk (k : Geometry) (w : Walk) (words : List ℕ) (v : Walk) (left : List ℕ) : Type 0 where
+-- the input words of the sealed call go in
+abbrev pub FitsIn : Geometry → (ℕ → Option Parsed) → Sealed → Type 0
+FitsIn k parsed sealed = length (parsed_words (sealed_call parsed sealed.nth)) ≤ input_room k
+
+-- a walk and the words behind another one, in this geometry and for these calls
+pub record KeepsWalk (k : Geometry) (parsed : ℕ → Option Parsed) (w : Walk) (words : List ℕ) (v : Walk) (left : List ℕ) : Type 0 where
   pub sealed : v.sealed ≡ w.sealed
   pub geometry : v.first.geometry ≡ w.first.geometry
-  pub walk : IsWalk w → w.first.geometry ≡ k → IsWalk v
+  pub walk : IsWalk w → w.first.geometry ≡ k → FitsIn k parsed w.sealed → IsWalk v
   pub long : length left ≡ length words
 
-module _ (k : Geometry) where
-  behind : (w v u : Walk) (words left last : List ℕ) → KeepsWalk k w words v left → KeepsWalk k v left u last → KeepsWalk k w words u last
+module _ (k : Geometry) (parsed : ℕ → Option Parsed) where
+  behind : (w v u : Walk) (words left last : List ℕ) → KeepsWalk k parsed w words v left → KeepsWalk k parsed v left u last → KeepsWalk k parsed w words u last
   behind w v u words left last a b = record {
     sealed = b.sealed ∙ a.sealed;
     geometry = b.geometry ∙ a.geometry;
-    walk = λ is here. b.walk (a.walk is here) (a.geometry ∙ here);
+    walk = λ is here few. b.walk (a.walk is here few) (a.geometry ∙ here) (subst (FitsIn k parsed) (sym a.sealed) few);
     long = b.long ∙ a.long;
   }
 
   -- the passes, the logs and the copy are the same
   like : (w v : Walk) (words left : List ℕ) → v.sealed ≡ w.sealed → v.first ≡ w.first → v.second ≡ w.second → v.first_log ≡ w.first_log → v.second_log ≡ w.second_log → v.wire ≡ w.wire →
-      length left ≡ length words → KeepsWalk k w words v left
+      length left ≡ length words → KeepsWalk k parsed w words v left
   like w v words left sealed first second first_log second_log wire long = record {
     sealed = sealed;
     geometry = ap (λ (p : PassState). p.geometry) first;
-    walk = λ is here. record {
+    walk = λ is here few. record {
       first = subst IsPass (sym first) is.first;
       second = subst IsPass (sym second) is.second;
       same = ap (λ (p : PassState). p.geometry) second ∙ is.same ∙ sym (ap (λ (p : PassState). p.geometry) first);
@@ -127,11 +135,11 @@ module _ (k : Geometry) where
   }
 
   -- the copy is made anew, of no more bytes than the reply has
-  copied : (w : Walk) (words left bytes : List ℕ) → length bytes ≤ length (reply_of w) → length left ≡ length words → KeepsWalk k w words (record w { wire = refilled w.wire bytes }) left
-  copied w words left bytes few long = record {
+  copied : (w : Walk) (words left bytes : List ℕ) → length bytes ≤ length (reply_of w) → length left ≡ length words → KeepsWalk k parsed w words (record w { wire = refilled w.wire bytes }) left
+  copied w words left bytes most long = record {
     sealed = refl;
     geometry = refl;
-    walk = λ is here. record {
+    walk = λ is here few. record {
       first = is.first;
       second = is.second;
       same = is.same;
@@ -140,15 +148,15 @@ module _ (k : Geometry) where
       first_room = is.first_room;
       second_room = is.second_room;
       wire_room = is.wire_room;
-      wire_fits = omega (arith, few, is.second.bytes_fit, is.second.bytes, ap bytes_room is.same, is.wire_room);
+      wire_fits = omega (arith, most, is.second.bytes_fit, is.second.bytes, ap bytes_room is.same, is.wire_room);
     };
     long = long;
   }
 
   -- behind a step of a pass
-  pass_kept : (p : PassState) (m : Machine) (budget : ℕ) (x : After) → budget ≡ budget_of p.geometry → Ran budget m x → m.registers ≡ p.registers → m.input ≡ p.input → m.output ≡ p.output → m.bytes ≡ p.bytes → m.made ≡ p.made →
+  pass_kept : (p : PassState) (m : Machine) (given : List ℕ) (budget : ℕ) (x : After) → length given ≤ input_room p.geometry → budget ≡ budget_of p.geometry → Ran given budget m x → m.registers ≡ p.registers → m.input ≡ p.input → m.output ≡ p.output → m.bytes ≡ p.bytes → m.made ≡ p.made →
       IsPass p → IsPass (pass_of p x.machine)
-  pass_kept p m budget x is r registers input output bytes made h = record {
+  pass_kept p m given budget x few is r registers input output bytes made h = record {
     valid = h.valid;
     registers = r.registers ∙ ap length registers ∙ h.registers;
     input = r.input ∙ ap (λ (l : Kept ℕ). l.room) input ∙ h.input;
@@ -157,14 +165,16 @@ module _ (k : Geometry) where
     made = let before : m.made ≤ budget = omega (arith, h.made, is, made) in omega (arith, r.made before, is);
     fits = r.fits (subst (λ (l : Kept ℕ). length l.items ≤ l.room) (sym output) h.fits);
     bytes_fit = r.bytes_fit (subst (λ (l : Kept ℕ). length l.items ≤ l.room) (sym bytes) h.bytes_fit);
+    input_fits = r.input_fits (subst (λ (l : Kept ℕ). length given ≤ l.room) (sym input) (omega (arith, few, h.input))) (subst (λ (l : Kept ℕ). length l.items ≤ l.room) (sym input) h.input_fits);
   }
 
-  first_kept : (w : Walk) (words : List ℕ) (x : After) → Ran (budget_of k) (first_machine w words) x → KeepsWalk k w words (with_first w x.machine) x.machine.words
+  first_kept : (w : Walk) (words : List ℕ) (x : After) → Ran (parsed_words (sealed_call parsed w.sealed.nth)) (budget_of k) (first_machine w words) x → KeepsWalk k parsed w words (with_first w x.machine) x.machine.words
   first_kept w words x r = record {
     sealed = refl;
     geometry = refl;
-    walk = λ is here. record {
-      first = pass_kept w.first (first_machine w words) (budget_of k) x (ap budget_of (sym here)) r refl refl refl refl refl is.first;
+    walk = λ is here few. record {
+      first = pass_kept w.first (first_machine w words) (parsed_words (sealed_call parsed w.sealed.nth)) (budget_of k) x
+          (subst (λ (q : Geometry). length (parsed_words (sealed_call parsed w.sealed.nth)) ≤ input_room q) (sym here) few) (ap budget_of (sym here)) r refl refl refl refl refl is.first;
       second = is.second;
       same = is.same;
       first_log = let fits : length x.machine.log.items ≤ x.machine.log.room = r.log_fits (omega (arith, is.first_log, is.first_room)) in omega (arith, fits, r.log, is.first_room);
@@ -177,13 +187,14 @@ module _ (k : Geometry) where
     long = r.words;
   }
 
-  second_kept : (w : Walk) (words : List ℕ) (x : After) → Ran (budget_of k) (second_machine w words) x → KeepsWalk k w words (with_second w x.machine) x.machine.words
+  second_kept : (w : Walk) (words : List ℕ) (x : After) → Ran (parsed_words (sealed_call parsed w.sealed.nth)) (budget_of k) (second_machine w words) x → KeepsWalk k parsed w words (with_second w x.machine) x.machine.words
   second_kept w words x r = record {
     sealed = refl;
     geometry = refl;
-    walk = λ is here. record {
+    walk = λ is here few. record {
       first = is.first;
-      second = pass_kept w.second (second_machine w words) (budget_of k) x (ap budget_of (sym (is.same ∙ here))) r refl refl refl refl refl is.second;
+      second = pass_kept w.second (second_machine w words) (parsed_words (sealed_call parsed w.sealed.nth)) (budget_of k) x
+          (subst (λ (q : Geometry). length (parsed_words (sealed_call parsed w.sealed.nth)) ≤ input_room q) (sym (is.same ∙ here)) few) (ap budget_of (sym (is.same ∙ here))) r refl refl refl refl refl is.second;
       same = is.same;
       first_log = is.first_log;
       second_log = let fits : length x.machine.log.items ≤ x.machine.log.room = r.log_fits (omega (arith, is.second_log, is.second_room)) in omega (arith, fits, r.log, is.second_room);
@@ -197,21 +208,21 @@ module _ (k : Geometry) where
 
   module _ (w : Walk) (before : List ℕ) where
     abbrev KeptBy : Acted → Type 0
-    KeptBy y = KeepsWalk k w before y.walk y.words
+    KeptBy y = KeepsWalk k parsed w before y.walk y.words
 
     -- a walk of which only the place, the gate, the wanted bucket and the want changed
-    so : (v : Walk) (words : List ℕ) → v.sealed ≡ w.sealed → v.first ≡ w.first → v.second ≡ w.second → v.first_log ≡ w.first_log → v.second_log ≡ w.second_log → v.wire ≡ w.wire → length words ≡ length before → KeepsWalk k w before v words
+    so : (v : Walk) (words : List ℕ) → v.sealed ≡ w.sealed → v.first ≡ w.first → v.second ≡ w.second → v.first_log ≡ w.first_log → v.second_log ≡ w.second_log → v.wire ≡ w.wire → length words ≡ length before → KeepsWalk k parsed w before v words
     so v words a b c d e f g = like w v before words a b c d e f g
 
     -- one that closes a phase, on a walk that was kept
-    kept_closes : (p : Phase) (v : Walk) (words : List ℕ) (want : Want) (to : Place) → KeepsWalk k w before v words → Always KeptBy (closes p v words want to)
+    kept_closes : (p : Phase) (v : Walk) (words : List ℕ) (want : Want) (to : Place) → KeepsWalk k parsed w before v words → Always KeptBy (closes p v words want to)
     kept_closes p v words want to h = λ yes. by_answer yes
       where
         by_answer : (yes : Bool) → Always KeptBy (closed_to v words (λ u. ends (record u { want = want }) words (Leads to)) (yes, if yes then risen v.gate.done else v.gate.done))
         by_answer true = behind w v _ before words words h (like v _ words words refl refl refl refl refl refl refl)
         by_answer false = behind w v _ before words words h (like v _ words words refl refl refl refl refl refl refl)
 
-    same : (words : List ℕ) → length words ≡ length before → KeepsWalk k w before w words
+    same : (words : List ℕ) → length words ≡ length before → KeepsWalk k parsed w before w words
     same words long = so w words refl refl refl refl refl refl long
 
     guard_asked : (words : List ℕ) → length words ≡ length before → (yes : Bool) → Always KeptBy (if yes then closes Guard w words Nothing (at Take 0) else ends w words Refuses)
@@ -222,7 +233,7 @@ module _ (k : Geometry) where
     kept_guard g words long true = λ yes. guard_asked words long yes
     kept_guard g words long false = same words long
 
-    take_room : (v : Walk) (words : List ℕ) (there : Bool) → KeepsWalk k w before v words →
+    take_room : (v : Walk) (words : List ℕ) (there : Bool) → KeepsWalk k parsed w before v words →
         Always KeptBy (if there then ends (record v { want = WantTake v.wanted }) words (Leads (at First 0)) else ends v words (Aborts (OutOfRange v.wanted)))
     take_room v words true h = behind w v _ before words words h (like v _ words words refl refl refl refl refl refl refl)
     take_room v words false h = h
@@ -237,29 +248,31 @@ module _ (k : Geometry) where
     kept_take g words long true = λ b wanted. so (record w { wanted = wanted }) words refl refl refl refl refl refl long
     kept_take g words long false = λ yes. take_closed g words long yes
 
-    first_onward : (v : Walk) (words : List ℕ) (o : Outcome) → KeepsWalk k w before v words → Always KeptBy (first_from v words o)
+    first_onward : (v : Walk) (words : List ℕ) (o : Outcome) → KeepsWalk k parsed w before v words → Always KeptBy (first_from v words o)
     first_onward v words (Next i) h = h
     first_onward v words Halted h = kept_closes First v words Nothing (at Restore 0) h
     first_onward v words (Bad cause) h = h
 
-    second_onward : (v : Walk) (words : List ℕ) (o : Outcome) → KeepsWalk k w before v words → Always KeptBy (second_from v words o)
+    second_onward : (v : Walk) (words : List ℕ) (o : Outcome) → KeepsWalk k parsed w before v words → Always KeptBy (second_from v words o)
     second_onward v words (Next i) h = h
     second_onward v words Halted h = kept_closes Second v words Nothing (at Compare 0) h
     second_onward v words (Bad cause) h = h
 
-    kept_first : (g : Given) (now index : ℕ) (words : List ℕ) → g.geometry ≡ k → length words ≡ length before → Always KeptBy (first_tree g now index w words)
-    kept_first g now index words is long =
+    kept_first : (g : Given) (now index : ℕ) (words : List ℕ) → g.geometry ≡ k → g.service.parsed g.input ≡ parsed → length words ≡ length before → Always KeptBy (first_tree g now index w words)
+    kept_first g now index words is of long =
         let s : Setting = setting_in g Making w.sealed now in
-        always_bound (Ran (budget_of k) (first_machine w words)) KeptBy (step_tree s index (first_machine w words)) (first_to w)
+        always_bound (Ran (parsed_words (sealed_call parsed w.sealed.nth)) (budget_of k) (first_machine w words)) KeptBy (step_tree s index (first_machine w words)) (first_to w)
         (λ x r. first_onward (with_first w x.machine) x.machine.words x.outcome (behind w w _ before words _ (same words long) (first_kept w words x r)))
-        (subst (λ (b : ℕ). Always (Ran b (first_machine w words)) (step_tree s index (first_machine w words))) (ap budget_of is) (ran_found s index (first_machine w words) (slice_get s.statements index)))
+        (subst (λ (f : ℕ → Option Parsed). Always (Ran (parsed_words (sealed_call f w.sealed.nth)) (budget_of k) (first_machine w words)) (step_tree s index (first_machine w words))) of
+        (subst (λ (b : ℕ). Always (Ran (parsed_words s.parsed) b (first_machine w words)) (step_tree s index (first_machine w words))) (ap budget_of is) (ran_found s index (first_machine w words) (slice_get s.statements index))))
 
-    kept_second : (g : Given) (now index : ℕ) (words : List ℕ) → g.geometry ≡ k → length words ≡ length before → Always KeptBy (second_tree g now index w words)
-    kept_second g now index words is long =
+    kept_second : (g : Given) (now index : ℕ) (words : List ℕ) → g.geometry ≡ k → g.service.parsed g.input ≡ parsed → length words ≡ length before → Always KeptBy (second_tree g now index w words)
+    kept_second g now index words is of long =
         let s : Setting = setting_in g Reading w.sealed now in
-        always_bound (Ran (budget_of k) (second_machine w words)) KeptBy (step_tree s index (second_machine w words)) (second_to w)
+        always_bound (Ran (parsed_words (sealed_call parsed w.sealed.nth)) (budget_of k) (second_machine w words)) KeptBy (step_tree s index (second_machine w words)) (second_to w)
         (λ x r. second_onward (with_second w x.machine) x.machine.words x.outcome (behind w w _ before words _ (same words long) (second_kept w words x r)))
-        (subst (λ (b : ℕ). Always (Ran b (second_machine w words)) (step_tree s index (second_machine w words))) (ap budget_of is) (ran_found s index (second_machine w words) (slice_get s.statements index)))
+        (subst (λ (f : ℕ → Option Parsed). Always (Ran (parsed_words (sealed_call f w.sealed.nth)) (budget_of k) (second_machine w words)) (step_tree s index (second_machine w words))) of
+        (subst (λ (b : ℕ). Always (Ran (parsed_words s.parsed) b (second_machine w words)) (step_tree s index (second_machine w words))) (ap budget_of is) (ran_found s index (second_machine w words) (slice_get s.statements index))))
 
     -- undoing leaves as many words
     undo_word_long : (words : List ℕ) (c : Change) (a : ℕ) (o : Option ℕ) → Always (λ (u : Undone). length u.words ≡ length words) (undo_word words c a o)
@@ -322,51 +335,51 @@ module _ (k : Geometry) where
     kept_verify index words long false = behind_words index words long (index == length w.second_log.items)
 
     -- each act
-    kept_act : (g : Given) (now : ℕ) (phase : Phase) (index : ℕ) (words : List ℕ) → g.geometry ≡ k → length words ≡ length before → Always KeptBy (act_in g now phase index w words)
-    kept_act g now Guard index words is long = λ yes. kept_guard g words long yes
-    kept_act g now Take index words is long = kept_take g words long (index == 0)
-    kept_act g now First index words is long = kept_first g now index words is long
-    kept_act g now Restore index words is long = kept_restore index words long (nat_lt index (length w.first_log.items))
-    kept_act g now Second index words is long = kept_second g now index words is long
-    kept_act g now Compare index words is long = kept_compare index words long (nat_lt index (compared w))
-    kept_act g now Verify index words is long = kept_verify index words long (nat_lt index (length w.second_log.items))
-    kept_act g now Enter index words is long = kept_closes Enter w words WantEnter (at Give 0) (same words long)
-    kept_act g now Give index words is long = kept_closes Give w words WantGive (at Send 0) (same words long)
-    kept_act g now Send index words is long = kept_closes Send w words (send_want (reply_of w)) (at Last 0) (same words long)
-    kept_act g now Last index words is long = kept_closes Last w words Nothing (at Last 1) (same words long)
+    kept_act : (g : Given) (now : ℕ) (phase : Phase) (index : ℕ) (words : List ℕ) → g.geometry ≡ k → g.service.parsed g.input ≡ parsed → length words ≡ length before → Always KeptBy (act_in g now phase index w words)
+    kept_act g now Guard index words is of long = λ yes. kept_guard g words long yes
+    kept_act g now Take index words is of long = kept_take g words long (index == 0)
+    kept_act g now First index words is of long = kept_first g now index words is of long
+    kept_act g now Restore index words is of long = kept_restore index words long (nat_lt index (length w.first_log.items))
+    kept_act g now Second index words is of long = kept_second g now index words is of long
+    kept_act g now Compare index words is of long = kept_compare index words long (nat_lt index (compared w))
+    kept_act g now Verify index words is of long = kept_verify index words long (nat_lt index (length w.second_log.items))
+    kept_act g now Enter index words is of long = kept_closes Enter w words WantEnter (at Give 0) (same words long)
+    kept_act g now Give index words is of long = kept_closes Give w words WantGive (at Send 0) (same words long)
+    kept_act g now Send index words is of long = kept_closes Send w words (send_want (reply_of w)) (at Last 0) (same words long)
+    kept_act g now Last index words is of long = kept_closes Last w words Nothing (at Last 1) (same words long)
 
   -- a whole step
 
-  module _ (w : Walk) (before : List ℕ) (g : Given) (here : g.geometry ≡ k) where
+  module _ (w : Walk) (before : List ℕ) (g : Given) (here : g.geometry ≡ k) (of : g.service.parsed g.input ≡ parsed) where
     abbrev KeptOn : Turn → Type 0
-    KeptOn x = KeepsWalk k w before x.walk x.words
+    KeptOn x = KeepsWalk k parsed w before x.walk x.words
 
-    ended_kept : (v : Walk) (words : List ℕ) (on : Place → Tree Turn) (e : Ending) → KeepsWalk k w before v words → ((to : Place) → Always KeptOn (on to)) → Always KeptOn (unless_ended on v words e)
+    ended_kept : (v : Walk) (words : List ℕ) (on : Place → Tree Turn) (e : Ending) → KeepsWalk k parsed w before v words → ((to : Place) → Always KeptOn (on to)) → Always KeptOn (unless_ended on v words e)
     ended_kept v words on (Leads to) h on_to = on_to to
     ended_kept v words on Refuses h on_to = h
     ended_kept v words on (Aborts cause) h on_to = h
 
-    goes_kept : (v : Walk) (words : List ℕ) (to : Place) → KeepsWalk k w before v words → Always KeptOn (goes v words to)
+    goes_kept : (v : Walk) (words : List ℕ) (to : Place) → KeepsWalk k parsed w before v words → Always KeptOn (goes v words to)
     goes_kept v words to h = λ p. behind w v _ before words words h (like v _ words words refl refl refl refl refl refl refl)
 
-    once_kept : (now : ℕ) (v : Walk) (words : List ℕ) → KeepsWalk k w before v words → Always KeptOn (once g now v words)
+    once_kept : (now : ℕ) (v : Walk) (words : List ℕ) → KeepsWalk k parsed w before v words → Always KeptOn (once g now v words)
     once_kept now v words h =
         always_bound (KeptBy v words) KeptOn (act_tree g now v words) goes_on
-        (λ y a. let more : KeepsWalk k w before y.walk y.words = behind w v y.walk before words y.words h a in ended_kept y.walk y.words (goes y.walk y.words) y.ending more (λ to. goes_kept y.walk y.words to more))
-        (kept_act v words g now v.place.phase v.place.index words here refl)
+        (λ y a. let more : KeepsWalk k parsed w before y.walk y.words = behind w v y.walk before words y.words h a in ended_kept y.walk y.words (goes y.walk y.words) y.ending more (λ to. goes_kept y.walk y.words to more))
+        (kept_act v words g now v.place.phase v.place.index words here of refl)
 
-    twice_kept : (now later : ℕ) (v : Walk) (words : List ℕ) → KeepsWalk k w before v words → Always KeptOn (bound (act_tree g now v words) (twice g later))
+    twice_kept : (now later : ℕ) (v : Walk) (words : List ℕ) → KeepsWalk k parsed w before v words → Always KeptOn (bound (act_tree g now v words) (twice g later))
     twice_kept now later v words h =
         always_bound (KeptBy v words) KeptOn (act_tree g now v words) (twice g later)
-        (λ y a. let more : KeepsWalk k w before y.walk y.words = behind w v y.walk before words y.words h a in ended_kept y.walk y.words (λ to. once g later y.walk y.words) y.ending more (λ to. once_kept later y.walk y.words more))
-        (kept_act v words g now v.place.phase v.place.index words here refl)
+        (λ y a. let more : KeepsWalk k parsed w before y.walk y.words = behind w v y.walk before words y.words h a in ended_kept y.walk y.words (λ to. once g later y.walk y.words) y.ending more (λ to. once_kept later y.walk y.words more))
+        (kept_act v words g now v.place.phase v.place.index words here of refl)
 
-    times_kept : (now later : ℕ) (v : Walk) (words : List ℕ) (act : Act) (times : Times) → KeepsWalk k w before v words → Always KeptOn (turn_as g now later v words act times)
+    times_kept : (now later : ℕ) (v : Walk) (words : List ℕ) (act : Act) (times : Times) → KeepsWalk k parsed w before v words → Always KeptOn (turn_as g now later v words act times)
     times_kept now later v words act Once h = once_kept now v words h
     times_kept now later v words act Skip h = goes_kept v words (skipped v act) h
     times_kept now later v words act Twice h = twice_kept now later v words h
 
-    turn_at_kept : (now later : ℕ) (v : Walk) (words : List ℕ) (o : Option Act) → KeepsWalk k w before v words → Always KeptOn (turn_at g now later v words o)
+    turn_at_kept : (now later : ℕ) (v : Walk) (words : List ℕ) (o : Option Act) → KeepsWalk k parsed w before v words → Always KeptOn (turn_at g now later v words o)
     turn_at_kept now later v words None h = h
     turn_at_kept now later v words (Some act) h = λ times. times_kept now later v words act times h
 

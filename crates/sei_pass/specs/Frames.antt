@@ -16,7 +16,7 @@ outcome_of (step.Next index) = Next index
 outcome_of step.Halted = Halted
 outcome_of (step.Bad cause) = Bad cause
 
--- the number of registers and the rooms stay, and the output words and bytes fit into theirs
+-- the number of registers and the rooms stay, and the input words, the output words and the output bytes fit into theirs
 pub record KeepsRooms (f f2 : Frame) : Type 0 where
   pub registers : length f2.registers ≡ length f.registers
   pub input : f2.input.room ≡ f.input.room
@@ -24,6 +24,7 @@ pub record KeepsRooms (f f2 : Frame) : Type 0 where
   pub bytes : f2.bytes.room ≡ f.bytes.room
   pub fits : length f2.output.items ≤ f2.output.room
   pub bytes_fit : length f2.bytes.items ≤ f2.bytes.room
+  pub input_fits : length f2.input.items ≤ f2.input.room
 
 -- the machine of a frame, with these words, log and notes
 abbrev pub machine_at : Frame → List ℕ → Kept Change → Notes → Machine

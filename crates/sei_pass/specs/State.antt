@@ -38,6 +38,7 @@ pub record IsPass (p : PassState) : Type 0 where
   pub made : p.made ≤ budget_of p.geometry
   pub fits : length p.output.items ≤ p.output.room
   pub bytes_fit : length p.bytes.items ≤ p.bytes.room
+  pub input_fits : length p.input.items ≤ p.input.room
 
 -- it has a list beside, for the output words that it reads
 pub record IsBuilt (p : PassState) (beside : Kept ℕ) : Type 0 where

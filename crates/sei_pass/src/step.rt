@@ -65,6 +65,7 @@ impl Frame {
         requires room { length (parsed_words (sealed_call (H.parsed hands.now input.now) sealed.now.nth)) ≤ self.old.input.room }
         requires fits { length self.old.output.items ≤ self.old.output.room }
         requires bytes_fit { length self.old.bytes.items ≤ self.old.bytes.room }
+        requires input_fits { length self.old.input.items ≤ self.old.input.room }
         requires scratch { scratch.old.room ≡ self.old.output.room }
         requires made { self.old.made ≤ budget_of g.now }
         ensures stepped { Stepped K.gives K.counts (C.told clock.now)

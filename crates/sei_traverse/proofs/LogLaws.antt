@@ -21,7 +21,7 @@ use Rattle.sei_stmt.specs.declared.stmt.Stmt.{Stmt}
 use Rattle.sei_stmt.specs.declared.stmt.Stmt.TheVariants.{Const, Move, Add, Sub, Input, Load, Store, Emit, Jump, JumpEq, JumpLt, Now, Alloc, Parse, Render, Halt}
 use Rattle.sei_stmt.specs.Machine.{Machine, Setting, Outcome, After, register, ends, assign}
 use Rattle.sei_stmt.specs.Machine.Outcome.{Next, Halted, Bad}
-use Rattle.sei_stmt.specs.Handling.{refilled}
+use Rattle.sei_stmt.specs.Handling.{parsed_words, refilled}
 use Rattle.sei_stmt.specs.Honest.{after, onward_from}
 use Rattle.sei_stmt.specs.Order.{finished, stage_after, stage_behind, stage_behind_found, stage_onward, only, is_parsed, is_open, timed, slotted, parsed, unparsed}
 use Rattle.sei_stmt.specs.Slots.{lowest_free}
@@ -356,8 +356,8 @@ pub record RoomsStay (start m : Machine) : Type 0 where
   pub output_fits : length start.output.items ≤ start.output.room → length m.output.items ≤ m.output.room
   pub log_fits : length start.log.items ≤ start.log.room → length m.log.items ≤ m.log.room
 
-kept_by : (g : Setting) (i : ℕ) (m : Machine) (s : Stmt) → Keeps m (honest (statement_tree g i m s))
-kept_by g i m s = always_honest (Keeps m) (statement_tree g i m s) (keeps g i m s)
+kept_by : (g : Setting) (i : ℕ) (m : Machine) (s : Stmt) → Keeps (parsed_words g.parsed) m (honest (statement_tree g i m s))
+kept_by g i m s = always_honest (Keeps (parsed_words g.parsed) m) (statement_tree g i m s) (keeps g i m s)
 
 room_one : (g : Setting) (start : Machine) (i : ℕ) (m : Machine) (s : Stmt) → RoomsStay start m → RoomsStay start (honest (statement_tree g i (counting m) s)).machine
 room_one g start i m s h =

@@ -21,6 +21,7 @@ use Rattle.sei_fault.proofs.Runs.{counted_runs, always, always_honest}
 use Rattle.sei_fault.proofs.Strikes.{never_falls, core_room_left}
 use Rattle.sei_gate.specs.Closing.{risen}
 use Rattle.sei_stmt.specs.declared.stmt.Stmt.{Stmt}
+use Rattle.sei_stmt.specs.Handling.{parsed_words}
 use Rattle.sei_stmt.specs.Machine.{Machine, Setting, Outcome, After}
 use Rattle.sei_stmt.specs.Machine as machines
 use Rattle.sei_stmt.specs.Machine.Outcome.{Next, Halted, Bad}
@@ -144,7 +145,7 @@ record CountsOn (m : Machine) (x : After) : Type 0 where
 counted_up : (s : Setting) (i : ℕ) (m : Machine) (st : Stmt) (enough : Bool) →
     Always (CountsOn m) (if enough then statement_tree s i (record m { made = m.made + 1 }) st else machines.ends m (Bad Budget))
 counted_up s i m st true =
-    always_map (Keeps (record m { made = m.made + 1 })) (CountsOn m) (statement_tree s i (record m { made = m.made + 1 }) st)
+    always_map (Keeps (parsed_words s.parsed) (record m { made = m.made + 1 })) (CountsOn m) (statement_tree s i (record m { made = m.made + 1 }) st)
     (λ x k. record { made = omega (arith, k.made); going = λ go. k.made }) (keeps s i (record m { made = m.made + 1 }) st)
 counted_up s i m st false = record { made = omega arith; going = λ go. absurd go }
 

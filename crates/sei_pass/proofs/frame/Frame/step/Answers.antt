@@ -1,5 +1,6 @@
 use Rattle.std.proofs.Common.{◌+◌}
 use Rattle.sei_fault.proofs.Runs.{always}
+use Rattle.sei_stmt.specs.Handling.{parsed_words}
 use Rattle.sei_stmt.specs.Statements.{statement_tree}
 use Rattle.sei_words.specs.Loan.{words_of, bucket_of}
 use Rattle.sei_pass.specs.Setting.{setting_of}
@@ -47,8 +48,8 @@ returns-then-self-budget-clause-rooms g c =
     let m = machine_at c.args.self.now (words_of (g.L.Lent.loan c.args.lent.now)) c.args.log.now c.args.notes.now in
     let m1 = record m { made = m.made + 1 } in
     let x = after_at c.make.new.self (words_of (g.L.Lent.loan c.make.new.lent)) c.make.new.log c.make.new.notes c.make.result in
-    let kept = always g.K.Core.gives (Keeps m1) (statement_tree s c.args.index m1 c.in-Some.statement) c.args.core.now c.make.new.core x (keeps s c.args.index m1 c.in-Some.statement) c.make.ensures.tree in
-    record { registers = kept.registers; input = kept.input; output = kept.output; bytes = kept.bytes; fits = kept.fits c.requires.fits; bytes_fit = kept.bytes_fit c.requires.bytes_fit }
+    let kept = always g.K.Core.gives (Keeps (parsed_words s.parsed) m1) (statement_tree s c.args.index m1 c.in-Some.statement) c.args.core.now c.make.new.core x (keeps s c.args.index m1 c.in-Some.statement) c.make.ensures.tree in
+    record { registers = kept.registers; input = kept.input; output = kept.output; bytes = kept.bytes; fits = kept.fits c.requires.fits; bytes_fit = kept.bytes_fit c.requires.bytes_fit; input_fits = kept.input_fits c.requires.room c.requires.input_fits }
 
 pub returns-then-self-budget-clause-made : goal.returns-then-self-budget-clause-made
 returns-then-self-budget-clause-made g c =
@@ -56,7 +57,7 @@ returns-then-self-budget-clause-made g c =
     let m = machine_at c.args.self.now (words_of (g.L.Lent.loan c.args.lent.now)) c.args.log.now c.args.notes.now in
     let m1 = record m { made = m.made + 1 } in
     let x = after_at c.make.new.self (words_of (g.L.Lent.loan c.make.new.lent)) c.make.new.log c.make.new.notes c.make.result in
-    let kept = always g.K.Core.gives (Keeps m1) (statement_tree s c.args.index m1 c.in-Some.statement) c.args.core.now c.make.new.core x (keeps s c.args.index m1 c.in-Some.statement) c.make.ensures.tree in
+    let kept = always g.K.Core.gives (Keeps (parsed_words s.parsed) m1) (statement_tree s c.args.index m1 c.in-Some.statement) c.args.core.now c.make.new.core x (keeps s c.args.index m1 c.in-Some.statement) c.make.ensures.tree in
     made_within c.args.self.now.made c.make.new.self.made c.budget.result (budget_of c.args.g.now) kept.made c.budget.ensures c.if-self-budget.true
 
 pub returns-then-self-budget-clause-log : goal.returns-then-self-budget-clause-log
@@ -65,7 +66,7 @@ returns-then-self-budget-clause-log g c =
     let m = machine_at c.args.self.now (words_of (g.L.Lent.loan c.args.lent.now)) c.args.log.now c.args.notes.now in
     let m1 = record m { made = m.made + 1 } in
     let x = after_at c.make.new.self (words_of (g.L.Lent.loan c.make.new.lent)) c.make.new.log c.make.new.notes c.make.result in
-    let kept = always g.K.Core.gives (Keeps m1) (statement_tree s c.args.index m1 c.in-Some.statement) c.args.core.now c.make.new.core x (keeps s c.args.index m1 c.in-Some.statement) c.make.ensures.tree in
+    let kept = always g.K.Core.gives (Keeps (parsed_words s.parsed) m1) (statement_tree s c.args.index m1 c.in-Some.statement) c.args.core.now c.make.new.core x (keeps s c.args.index m1 c.in-Some.statement) c.make.ensures.tree in
     kept.log
 
 pub returns-then-self-budget-clause-log_fits : goal.returns-then-self-budget-clause-log_fits
@@ -74,5 +75,5 @@ returns-then-self-budget-clause-log_fits g c =
     let m = machine_at c.args.self.now (words_of (g.L.Lent.loan c.args.lent.now)) c.args.log.now c.args.notes.now in
     let m1 = record m { made = m.made + 1 } in
     let x = after_at c.make.new.self (words_of (g.L.Lent.loan c.make.new.lent)) c.make.new.log c.make.new.notes c.make.result in
-    let kept = always g.K.Core.gives (Keeps m1) (statement_tree s c.args.index m1 c.in-Some.statement) c.args.core.now c.make.new.core x (keeps s c.args.index m1 c.in-Some.statement) c.make.ensures.tree in
+    let kept = always g.K.Core.gives (Keeps (parsed_words s.parsed) m1) (statement_tree s c.args.index m1 c.in-Some.statement) c.args.core.now c.make.new.core x (keeps s c.args.index m1 c.in-Some.statement) c.make.ensures.tree in
     kept.log_fits

@@ -12,6 +12,7 @@ invariant_of-self g c = record {
     made = c.step.ensures.made;
     fits = c.step.ensures.rooms.fits;
     bytes_fit = c.step.ensures.rooms.bytes_fit;
+    input_fits = c.step.ensures.rooms.input_fits;
   };
   room = c.step.ensures.scratch ∙ c.self.invariant.room;
 }
@@ -26,4 +27,5 @@ returns-clause-pass g c = record {
   made = c.step.ensures.made;
   fits = c.step.ensures.rooms.fits;
   bytes_fit = c.step.ensures.rooms.bytes_fit;
+  input_fits = c.step.ensures.rooms.input_fits;
 }
