@@ -28,7 +28,7 @@ pub record Setting : Type 0 where
   -- whether the noted answers are read, as in the second pass, or made, as in the first
   pub reading : Bool
   pub statements : List Stmt
-  -- whether the code of the sealed input is the sealed one
+  -- whether the code of the input is the sealed one
   pub intact : Bool
   -- the sealed call of the input, where there is one
   pub parsed : Option Parsed

@@ -1,4 +1,5 @@
--- In which order a pass may make its statements: Parse comes first, then Now, then perhaps one Alloc, and one Render behind all Emits.
+-- In which order a pass may make its statements: one Parse before all of Input, Emit and Now; then one Now; then perhaps one
+-- Alloc; then one Render, behind all Emits; and Halt behind it. The other statements may be made anywhere.
 use Rattle.std.specs.Prelude.{ℕ, zero, suc, Bool, ◌&&◌, ◌==◌, nat_lt, Option, Some, None, slice_get, if◌then◌else◌}
 use Rattle.sei_stmt.specs.declared.stmt.Stmt.{Stmt}
 use Rattle.sei_stmt.specs.declared.stmt.Stmt.TheVariants.{Input, Emit, Now, Alloc, Parse, Render, Halt}

@@ -43,7 +43,7 @@ pub record RunState : Type 0 where
   pub stores : ℕ
   -- one more than the address stored at last, 0 before the first store
   pub floor : ℕ
-  -- which of its questions the run has put: one of the five stages of a pass
+  -- how far the run has come: one of the five stages of a pass
   pub stage : ℕ
   -- how many statements were made
   pub steps : ℕ

@@ -128,7 +128,8 @@ alloc_from g i m to moment =
 abbrev pub alloc_tree : Setting → ℕ → Machine → ℕ → ℕ → Tree After
 alloc_tree g i m to moment = Ask (Value (register m moment)) (λ t. alloc_from g i m to t)
 
--- the input: its code, then its call, then the call's bucket are tested, and the call fills the input words
+-- the input: its code is tested, and behind that test its call fills the input words; then it is tested that there is such
+-- a call, and that its bucket is lent; last the first input word is stored through the core
 
 -- a bucket is lent, and is the call's
 abbrev pub is_lent : Option ℕ → Option Parsed → Bool
@@ -136,6 +137,7 @@ is_lent None call = false
 is_lent (Some bucket) None = false
 is_lent (Some bucket) (Some call) = bucket == call.bucket
 
+-- the input words stand there; the first of them, if there is one, is stored anew
 abbrev pub parse_first : ℕ → Machine → List ℕ → Tree After
 parse_first i m [] = ends m (Next (i + 1))
 parse_first i m (word ∷ words) = Ask (Written word) (λ w. ends (record m { input = refilled m.input (w ∷ words) }) (Next (i + 1)))
