@@ -26,3 +26,4 @@ pub mod Whole
 pub mod Serving
 pub mod CodeLaws
 pub mod HandsLaws
+pub mod SoundLaws

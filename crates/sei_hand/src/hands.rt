@@ -15,7 +15,7 @@ use crate::table::table_of;
 use mc_model::{CallSpan, Geometry};
 use mc_text::{Limits, parse};
 use sei_code::{Buffer, Memory, Rendered, WordList};
-use sei_stmt::{Handler, Table};
+use sei_stmt::{Handler, Modeled, Table};
 use std::alloc::Global;
 use std::marker::Model;
 use thiserror::Error;
@@ -133,4 +133,16 @@ impl Handler for Hands {
     fn render(&self, words: &[u64], into: &mut Buffer) -> Rendered {
         mc_render::render(words, 8 * self.geometry.value_words, into)
     }
+}
+
+/// The words of a bucket stand for a bucket of the model.
+impl Modeled for Hands {
+    ghost use Rattle.mc_model.specs.Bucket.{Bucket};
+    ghost use Rattle.sei_hand.specs.Served.{Stands, answer_of};
+
+    ghost State = { Bucket };
+
+    ghost stands = { Stands };
+
+    ghost answer = { answer_of };
 }

@@ -14,10 +14,10 @@ ghost use Rattle.sei_hand.specs.InputWords.{input_words, input_room};
 ghost use Rattle.sei_hand.specs.Requests.{limits_of, request_of, call_in, call_or_blank, count_of_calls, parsed_of, parsed_call};
 ghost use Rattle.mc_model.specs.Answer.{answer};
 ghost use Rattle.mc_render.specs.Rendering.{rendered};
-ghost use Rattle.sei_stmt.specs.Sound.{IsSound};
+ghost use Rattle.sei_stmt.specs.Sound.{IsSound, IsSoundHandler};
 ghost use Rattle.sei_hand.specs.Commands.{hands_table};
 ghost use Rattle.sei_hand.specs.Spaces.{space_of};
-ghost use Rattle.sei_hand.specs.Served.{Stands};
+ghost use Rattle.sei_hand.specs.Served.{Stands, answer_of};
 ghost use Rattle.sei_hand.specs.ReadCall.{IsReadCall, HasBytes, ComesFrom};
 
 /// The request of an input is the one that it spells.
@@ -62,4 +62,11 @@ pub fn hands_are_sound()
     ensures { (g : Geometry) → IsValid g →
         IsSound (hands_table g) (parsed_call g) (rendered (8 * g.value_words)) (space_of g) (Stands g)
         (λ input nth b now. answer (room_of g) b now (call_or_blank (call_in (limits_of g) input nth))) }
+{}
+
+/// The hands of each valid geometry are a sound handler for their model: that they are sound, and what
+/// is said of their calls, in one.
+pub fn hands_are_a_sound_handler()
+    ensures { (g : Geometry) → IsValid g →
+        IsSoundHandler (hands_table g) (count_of_calls g) (parsed_call g) (rendered (8 * g.value_words)) (space_of g) g.buckets (Stands g) (answer_of g) }
 {}

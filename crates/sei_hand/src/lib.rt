@@ -13,4 +13,7 @@ mod table;
 mod tests;
 
 pub use hands::{Hands, HandsError};
-pub use laws::{calls_are_counted, calls_are_read, hands_are_sound, requests_are_spelled};
+pub use laws::{
+    calls_are_counted, calls_are_read, hands_are_a_sound_handler, hands_are_sound,
+    requests_are_spelled,
+};

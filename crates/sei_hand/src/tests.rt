@@ -174,4 +174,5 @@ fn a_text_is_rendered(rt: HostRuntime) -> Result<(), Fail> {
 fn laws_can_be_called() {
     requests_are_spelled();
     calls_are_read();
+    hands_are_a_sound_handler();
 }

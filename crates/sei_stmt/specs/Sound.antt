@@ -1,10 +1,11 @@
 -- What is asked of a handler: each honest run of its table, in the first pass and in the second, ends well.
-use Rattle.std.specs.Prelude.{◌≡◌, ℕ, ◌+◌, ◌^◌, ◌<◌, ◌≤◌, true, List, [], ◌∷◌, Option, Some, All}
+use Rattle.std.specs.Prelude.{◌≡◌, ℕ, ◌+◌, ◌^◌, ◌<◌, ◌≤◌, true, List, [], ◌∷◌, Option, Some, All, slice_get}
 use Rattle.sei_code.specs.Codes.{message_code}
 use Rattle.sei_log.specs.declared.log.Change.{Change}
 use Rattle.sei_log.specs.declared.notes.Notes as noting
 use Rattle.sei_fault.specs.declared.cause.AbortCause.TheVariants.{Notes}
 use Rattle.sei_stmt.specs.declared.stmt.Stmt.{Stmt}
+use Rattle.sei_stmt.specs.declared.stmt.Stmt.TheVariants.{Parse}
 use Rattle.sei_stmt.specs.Handling.{Parsed}
 use Rattle.sei_stmt.specs.Machine.{Machine, Setting}
 use Rattle.sei_stmt.specs.Machine.Outcome.{Bad}
@@ -41,3 +42,13 @@ pub record IsSound {B : Type 0} (statements : List Stmt) (parsed : List ℕ → 
       (g : Setting) → IsPassOf statements rendered space g → IsServed g p →
       (words : List ℕ) (b : B) → Stands words b → (now : ℕ) → now < 2 ^ 64 → (notes : noting.Notes) → IsTold g now notes →
       Serves g (λ ws. Stands ws (answer input nth b now).0) (answer input nth b now).1 (beginning space.rooms words notes)
+
+-- a handler is sound for so many buckets too: its table parses first, and its calls of each input are those whose numbers
+-- are below their number, each for a bucket that is there
+pub record IsSoundHandler {B : Type 0} (statements : List Stmt) (calls : List ℕ → Option ℕ) (parsed : List ℕ → ℕ → Option Parsed) (rendered : List ℕ → Option (List ℕ))
+    (space : Space) (buckets : ℕ) (Stands : List ℕ → B → Type 0) (answer : List ℕ → ℕ → B → ℕ → B × List ℕ) : Type 0 where
+  pub sound : IsSound statements parsed rendered space Stands answer
+  pub parses : slice_get statements 0 ≡ Some Parse
+  pub counted : (input : List ℕ) (nth count : ℕ) → calls input ≡ Some count → nth < count → (p : Parsed) × (parsed input nth ≡ Some p)
+  pub found : (input : List ℕ) (nth : ℕ) (p : Parsed) → parsed input nth ≡ Some p → (count : ℕ) × (calls input ≡ Some count) × (nth < count)
+  pub there : (input : List ℕ) (nth : ℕ) (p : Parsed) → parsed input nth ≡ Some p → p.bucket < buckets

@@ -45,3 +45,17 @@ pub trait Handler {
         ensures answer { result ≡ rendered_as (rendered self.now words.now) into.old.room }
         ensures filled { into.new ≡ refilled into.old (rendered_bytes (rendered self.now words.now) into.old.room) };
 }
+
+/// A handler with a model: the words of a bucket stand for its states, and a call does to a state what
+/// the answer does. The trait does not promise that; it is what `IsSoundHandler` says.
+pub trait Modeled: Handler {
+    /// The states of the model.
+    ghost State: { Type 0 };
+
+    /// Which words stand for which states.
+    ghost stands: { Self → List ℕ → State → Type 0 };
+
+    /// The answer to a call of an input, by its number, in a state at a time: the state that it leaves,
+    /// and its reply.
+    ghost answer: { Self → List ℕ → ℕ → State → ℕ → State × List ℕ };
+}

@@ -12,6 +12,6 @@ mod tests;
 
 pub use build::{if_eq, if_lt, while_lt};
 pub use fragment::{Fragment, place};
-pub use handler::Handler;
+pub use handler::{Handler, Modeled};
 pub use stmt::Stmt;
 pub use table::{Table, TableError, target};
