@@ -5,7 +5,7 @@ ghost use Rattle.sei_fault.specs.Phases.{phase_number};
 /// The phases of a traversal, in their order.
 #[derive(Clone, Copy, Debug, PartialEq, Eq)]
 pub enum Phase {
-    /// Tests that the input is the sealed one, and one whole request.
+    /// Tests that the input is the sealed one, and one whole request that has the sealed call.
     Guard,
     /// Has the bucket of the call taken.
     Take,
@@ -50,7 +50,7 @@ impl Phase {
     }
 }
 
-/// A place in a traversal: one of its steps, or its end.
+/// A place in a traversal: one of its steps, its end, or one where it has no step.
 #[derive(Clone, Copy, Debug, PartialEq, Eq)]
 pub struct Place {
     /// The phase.

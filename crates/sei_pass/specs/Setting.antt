@@ -35,7 +35,8 @@ abbrev pub free_of : Geometry → Option ℕ → List ℕ → ℕ → ℕ → Bo
 free_of g None words moment slot = false
 free_of g (Some bucket) words moment slot = is_free g words moment slot
 
--- the parts that only some statements look at, where no statement does
+-- a setting that says nothing. `bare`, `timed`, `slotted`, `calling` and `rendering` serve the clauses of the code: a call
+-- looks at few parts of a setting, and its clause names those alone
 abbrev pub bare : Setting
 bare = record {
   reading = false;
