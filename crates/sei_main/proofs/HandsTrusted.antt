@@ -4,28 +4,21 @@ use Rattle.std.specs.Option.{option_map, option_and_then}
 use Rattle.sei_code.specs.Coded.{read_of}
 use Rattle.mc_model.specs.declared.geometry.Geometry.{Geometry}
 use Rattle.mc_model.specs.declared.call.Verb.TheVariants.{Fixed}
-use Rattle.mc_model.specs.Answer.{answer}
 use Rattle.mc_model.specs.Bucket.{Bucket}
 use Rattle.mc_model.specs.Call.{Placed, blank}
 use Rattle.mc_model.specs.Packed.{AreBytes}
-use Rattle.mc_model.specs.Server.{IsValid, room_of}
+use Rattle.mc_model.specs.Server.{IsValid}
 use Rattle.sei_stmt.specs.Handling.{Parsed}
 use Rattle.sei_pass.specs.declared.given.Sealed.{Sealed}
 use Rattle.sei_pass.specs.Setting.{sealed_call, call_at}
-use Rattle.sei_hand.specs.Requests.{limits_of, call_in, call_or_blank, parsed_of, parsed_call}
-use Rattle.sei_hand.specs.Served.{Stands}
-use Rattle.sei_hand.proofs.CountedLaws.{counted, found, buckets, parses}
-use Rattle.sei_hand.proofs.HandsLaws.{parsed_is_asked}
-use Rattle.sei_hand.proofs.Serving.{hands_sound}
+use Rattle.sei_hand.specs.Requests.{limits_of, call_in, parsed_of, parsed_call}
+use Rattle.sei_hand.specs.Served.{Stands, answer_of}
+use Rattle.sei_hand.proofs.SoundLaws.{sound_hands}
 use Rattle.sei_traverse.specs.Errand.{Errand, TellsTime}
 use Rattle.sei_traverse.specs.Sound.{IsServedBy}
 use Rattle.sei_traverse.specs.Trusted.{IsTrusted}
 use Rattle.sei_traverse.proofs.TrustLaws.{sound_is_trusted}
 use Rattle.sei_main.specs.Errands.{errand_for}
-
--- the answer to a call of an input, on a bucket at a time
-abbrev pub answer_of : Geometry → List ℕ → ℕ → Bucket → ℕ → Bucket × List ℕ
-answer_of g input nth b now = answer (room_of g) b now (call_or_blank (call_in (limits_of g) input nth))
 
 -- the errand of a call, by a clock that may tell its answer
 abbrev pub errand_told : Geometry → List ℕ → Sealed → Placed → List ℕ → Option ℕ → Errand
@@ -40,12 +33,8 @@ module _ (g : Geometry) (valid : IsValid g) (text : List ℕ) (bytes : AreBytes 
   -- the hands serve it
   pub hands_serve : (clock : Option ℕ) → TellsTime clock → IsServedBy (Stands g) (answer_of g) (errand_told g text sealed p taken clock)
   hands_serve clock tells = record {
-    sound = hands_sound g valid (parsed_call g) (λ input nth. call_or_blank (call_in (limits_of g) input nth)) (λ input nth x small found. parsed_is_asked g valid input nth x small found);
-    parses = parses g;
+    handler = sound_hands g valid;
     bytes = bytes;
-    counted = counted g;
-    found = found g;
-    buckets = λ input nth x e. buckets g input nth x valid.some_buckets e;
     call = is;
     clock = tells;
     held = b;

@@ -1,4 +1,4 @@
--- What a sound handler is asked is an errand.
+-- An honest first pass of a sound handler ends well.
 use Rattle.std.proofs.Common.{◌≡◌, ℕ, ◌^◌, ◌<◌, true, List, Option, Some, false, refl, sym, ap, ◌∙◌}
 use Rattle.std.specs.Prelude.{All}
 use Rattle.std.proofs.lemmas.Bool.{both_ways}
@@ -7,11 +7,11 @@ use Rattle.sei_stmt.specs.Machine.{Machine}
 use Rattle.sei_stmt.specs.Passes.IsTold.{ByClock}
 use Rattle.sei_stmt.specs.Sound.{IsSound, EndsWell, Serves}
 use Rattle.sei_stmt.specs.Sound.Serves.{Well, Unfit}
-use Rattle.sei_pass.specs.Setting.{is_intact, call_at}
+use Rattle.sei_pass.specs.Setting.{is_intact}
 use Rattle.sei_traverse.specs.Comes.{at_time, EndsAt}
-use Rattle.sei_traverse.specs.Errand.{Errand, IsErrand, first_setting, first_start, no_notes, given_in}
+use Rattle.sei_traverse.specs.Errand.{Errand, first_setting, first_start, no_notes, given_in}
 use Rattle.sei_traverse.specs.Service.{call_of}
-use Rattle.sei_traverse.specs.Sound.{space_of, IsAsked}
+use Rattle.sei_traverse.specs.Sound.{space_of}
 
 module _ {B : Type 0} (Stands : List ℕ → B → Type 0) (answer : List ℕ → ℕ → B → ℕ → B × List ℕ) (e : Errand) where
   -- each honest first pass of a fit input ends well
@@ -37,18 +37,3 @@ module _ {B : Type 0} (Stands : List ℕ → B → Type 0) (answer : List ℕ �
       by_end : Serves (at_time (first_setting e) now) (λ ws. Stands ws (answer e.input nth held now).0) (answer e.input nth held now).1 (first_start e) → EndsAt (first_setting e) (first_start e) now
       by_end (Well end steps w) = well end steps w
       by_end (Unfit second m n f) = absurd (both_ways false refl second)
-
-module _ {B : Type 0} (Stands : List ℕ → B → Type 0) (answer : List ℕ → ℕ → B → ℕ → B × List ℕ) (e : Errand) (h : IsAsked Stands answer e) where
-  called : call_of (given_in e) e.sealed ≡ Some e.call
-  called = ap (call_at (e.service.parsed e.input)) h.reads ∙ h.called
-
-  -- each honest first pass of it ends well
-  pub asked_is_errand : IsErrand e
-  asked_is_errand = record {
-    intact = h.intact;
-    has = h.has;
-    called = called;
-    bucket = h.bucket;
-    clock = h.clock;
-    ends = ends_at Stands answer e h.sound h.bytes h.nth h.called h.intact called h.held h.stands;
-  }

@@ -1,6 +1,6 @@
--- The errand of a sound handler is trusted.
+-- The errand of a sound handler is trusted, and is answered.
 use Rattle.std.specs.Prelude.{slice_get}
-use Rattle.std.proofs.Common.{◌≡◌, ℕ, ◌^◌, ◌<◌, inl, inr, true, List, Option, Some, None, refl, sym, ap, ◌∙◌, arith}
+use Rattle.std.proofs.Common.{◌≡◌, ℕ, ◌^◌, ◌<◌, inl, inr, true, List, Option, Some, None, refl, sym, ap, ◌∙◌, subst, arith}
 use Rattle.std.proofs.lemmas.Bool.{lt-ltb, ltb-true}
 use Rattle.sei_code.specs.Coded.{sealed, read_of}
 use Rattle.sei_log.specs.declared.notes.Notes.{Notes}
@@ -16,12 +16,15 @@ use Rattle.sei_stmt.specs.Passes.IsTold.{ByNotes}
 use Rattle.sei_stmt.specs.Sound.{Serves}
 use Rattle.sei_stmt.specs.Sound.Serves.{Well, Unfit}
 use Rattle.sei_stmt.proofs.HonestLaws.{halts_or_aborts}
+use Rattle.sei_stmt.proofs.Invariant.{one_end}
 use Rattle.sei_stmt.proofs.Relog.{IsGoing}
 use Rattle.sei_pass.specs.Setting.{call_at}
 use Rattle.sei_traverse.specs.Comes.{renoted, renoted_end}
-use Rattle.sei_traverse.specs.Errand.{Errand, first_setting, first_start, given_in}
+use Rattle.sei_traverse.specs.declared.walk.Walk.{Walk}
+use Rattle.sei_traverse.specs.Errand.{Errand, IsErrand, first_setting, first_start, given_in}
 use Rattle.sei_traverse.specs.Service.{has_call, has_sealed_call, call_of}
-use Rattle.sei_traverse.specs.Sound.{IsServedBy}
+use Rattle.sei_traverse.specs.Sound.{IsServedBy, IsAnswered}
+use Rattle.sei_traverse.specs.Struck.{Answers}
 use Rattle.sei_traverse.specs.Trusted.{IsFit, second_setting, ReadsNotes, IsTrusted}
 use Rattle.sei_traverse.proofs.ReadingLaws.{Says, SaysNothing, seal_or_nothing, seal_says, nothing_says, something_said, alike_run, halting_goes, alike_asked, untimed_run, untimed_stage}
 use Rattle.sei_traverse.proofs.SoundLaws.{ends_at}
@@ -40,14 +43,14 @@ module _ {B : Type 0} (Stands : List ℕ → B → Type 0) (answer : List ℕ �
   has_called : has_sealed_call (given_in e) e.sealed ≡ true → call_of (given_in e) e.sealed ≡ Some e.call
   has_called has =
       let i = has_index (e.service.calls e.input) (read_of e.sealed.nth) has in
-      let found = h.counted e.input i.0 i.1 i.3 i.4 in
+      let found = h.handler.counted e.input i.0 i.1 i.3 i.4 in
       let called : call_of (given_in e) e.sealed ≡ Some found.0 = ap (call_at (e.service.parsed e.input)) i.2 ∙ found.1 in
       called ∙ ap (λ (p : Parsed). let o : Option Parsed = Some p in o) (sym (h.call found.0 called))
 
   called_has : (p : Parsed) → call_of (given_in e) e.sealed ≡ Some p → has_sealed_call (given_in e) e.sealed ≡ true
   called_has p called =
       let i = call_index (e.service.parsed e.input) (read_of e.sealed.nth) p called in
-      let c = h.found e.input i.0 p (ap (call_at (e.service.parsed e.input)) (sym i.1) ∙ called) in
+      let c = h.handler.found e.input i.0 p (ap (call_at (e.service.parsed e.input)) (sym i.1) ∙ called) in
       ap (has_call (e.service.calls e.input)) i.1 ∙ ap (λ o. has_call o (Some i.0)) c.1 ∙ lt-ltb i.0 c.0 c.2
 
   -- of a fit input, the index of its call
@@ -61,7 +64,7 @@ module _ {B : Type 0} (Stands : List ℕ → B → Type 0) (answer : List ℕ �
   serves_noted : (fit : IsFit e) (time slot : ℕ) → time < 2 ^ 64 →
       Serves (second_setting e) (λ ws. Stands ws (answer e.input (nth_of fit).0 h.held time).0) (answer e.input (nth_of fit).0 h.held time).1 (renoted (notes_of time slot) (first_start e))
   serves_noted fit time slot small =
-      h.sound.serves e.input h.bytes (nth_of fit).0 e.call (parsed_at fit) (second_setting e)
+      h.handler.sound.serves e.input h.bytes (nth_of fit).0 e.call (parsed_at fit) (second_setting e)
       (record { statements_are = refl; rendered_are = refl; budget_is = refl; slots_are = refl; free_are = refl })
       (record { intact = fit.intact; parsed = fit.called; lent = refl }) e.taken h.held h.stands time small (notes_of time slot) (ByNotes refl slot refl)
 
@@ -116,11 +119,39 @@ module _ {B : Type 0} (Stands : List ℕ → B → Type 0) (answer : List ℕ �
   -- what a sound handler serves may be trusted
   pub sound_is_trusted : IsTrusted e
   sound_is_trusted = record {
-    parses = h.parses;
+    parses = h.handler.parses;
     has_called = has_called;
     called_has = called_has;
-    bucket = λ fit. h.buckets e.input (nth_of fit).0 e.call (parsed_at fit);
+    bucket = λ fit. h.handler.there e.input (nth_of fit).0 e.call (parsed_at fit);
     clock = h.clock;
-    ends = λ fit now small. ends_at Stands answer e h.sound h.bytes (nth_of fit).0 (parsed_at fit) fit.intact fit.called h.held h.stands now small;
+    ends = λ fit now small. ends_at Stands answer e h.handler.sound h.bytes (nth_of fit).0 (parsed_at fit) fit.intact fit.called h.held h.stands now small;
     reads = reads;
   }
+
+  -- the words that are to be entered are those of the answer
+  pub is_answered : (w : Walk) (words : List ℕ) (asked : ℕ) (a : Answers e w words asked) → a.time < 2 ^ 64 → IsAnswered Stands answer h.held e w words
+  is_answered w words asked a small = by_end (serves_noted a.aimed.fit a.time a.slot small)
+    where
+      nth : ℕ
+      nth = (nth_of a.aimed.fit).0
+
+      start : Machine
+      start = renoted (notes_of a.time a.slot) (first_start e)
+
+      answered : (end : Machine) → end ≡ a.end → Stands end.words (answer e.input nth h.held a.time).0 → end.bytes.items ≡ (answer e.input nth h.held a.time).1 → IsAnswered Stands answer h.held e w words
+      answered end same stands replied = record {
+        nth = nth;
+        reads = (nth_of a.aimed.fit).1;
+        time = a.time;
+        noted = a.noted;
+        stands = subst (λ ws. Stands ws (answer e.input nth h.held a.time).0) (ap (λ (m : Machine). m.words) same ∙ sym a.words_are) stands;
+        reply = a.reply ∙ ap (λ (m : Machine). m.bytes.items) (sym same) ∙ replied;
+      }
+
+      by_end : Serves (second_setting e) (λ ws. Stands ws (answer e.input nth h.held a.time).0) (answer e.input nth h.held a.time).1 start → IsAnswered Stands answer h.held e w words
+      by_end (Well end steps s) = answered end (one_end (second_setting e) start end a.end steps a.made s.run a.run) s.held s.replied
+      by_end (Unfit second m n bad) = absurd (halts_or_aborts (second_setting e) start m a.end NoNotes n a.made bad a.run.halts)
+
+-- what is trusted and fit is an errand
+pub fit_is_errand : (e : Errand) → IsTrusted e → IsFit e → IsErrand e
+fit_is_errand e t fit = record { intact = fit.intact; has = fit.has; called = fit.called; bucket = t.bucket fit; clock = t.clock; ends = t.ends fit }

@@ -1,5 +1,5 @@
 //! Laws of the definitions, each the clause of a function that does nothing.
-ghost use Rattle.std.specs.Prelude.{◌≡◌, ℕ, ◌+◌, ◌*◌, ◌≤◌, List, Option, Some, None};
+ghost use Rattle.std.specs.Prelude.{◌≡◌, ℕ, ◌+◌, ◌*◌, ◌^◌, ◌<◌, ◌≤◌, List, Option, Some, None};
 ghost use Rattle.sei_fault.specs.Counts.{Counts};
 ghost use Rattle.sei_fault.specs.declared.place.Phase.{Phase};
 ghost use Rattle.mc_model.specs.declared.geometry.Geometry.{Geometry};
@@ -10,9 +10,14 @@ ghost use Rattle.sei_traverse.specs.Errand.{Errand, IsErrand};
 ghost use Rattle.sei_traverse.specs.Facts.{Facts};
 ghost use Rattle.sei_traverse.specs.OnWay.{OnWay, AtEnd};
 ghost use Rattle.sei_traverse.specs.Served.{IsServed, HasReply};
+ghost use Rattle.sei_traverse.specs.Sound.{IsServedBy, IsAnswered};
 ghost use Rattle.sei_traverse.specs.State.{TraversalState, IsTraversal, begun};
-ghost use Rattle.sei_traverse.specs.Trusted.{IsTrusted};
+ghost use Rattle.sei_traverse.specs.Struck.{Answers};
+ghost use Rattle.sei_traverse.specs.Trusted.{IsTrusted, IsFit};
 ghost use Rattle.sei_traverse.specs.Walks.{log_room};
+ghost use Rattle.sei_traverse.specs.declared.walk.Walk.{Walk};
+
+use sei_stmt::Modeled;
 
 /// A traversal that begins for an errand is on its way. It stays so where the words that were taken
 /// are lent when they are wanted, and where they are lent no more once the bucket is given back.
@@ -67,4 +72,14 @@ pub fn both_passes_are_made()
     ensures sent { (e : Errand) (t : TraversalState) (lent : Option (List ℕ)) (begin now : Counts) → t.walk.place.phase ≡ Phase.Done →
         OnWay e t lent begin now → now.struck ≡ begin.struck → HasReply e t begin now }
     ensures finished { (e : Errand) (t : TraversalState) (begin now : Counts) → AtEnd e t begin now → now.struck ≡ begin.struck → HasReply e t begin now }
+{}
+
+/// A sound handler is trusted on words that stand for a state of its model, so a strike is isolated
+/// there; where the input has the call, that is an errand as well. What is to be entered is the answer:
+/// the words stand for the state that it leaves at the noted time, and the reply is the answer's.
+pub fn sound_handlers_are_trusted<H: Modeled>()
+    ensures trusted { (h : H) (e : Errand) → IsServedBy (H.stands h) (H.answer h) e → IsTrusted e }
+    ensures errand { (h : H) (e : Errand) → IsServedBy (H.stands h) (H.answer h) e → IsFit e → IsErrand e }
+    ensures answered { (h : H) (e : Errand) (s : IsServedBy (H.stands h) (H.answer h) e) (w : Walk) (words : List ℕ) (asked : ℕ) →
+        (a : Answers e w words asked) → a.time < 2 ^ 64 → IsAnswered (H.stands h) (H.answer h) s.held e w words }
 {}

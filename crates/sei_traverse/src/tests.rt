@@ -10,7 +10,7 @@ use sei_code::{Buffer, Coded, Mode, Rendered, WordList, message_code};
 use sei_fault::{AbortCause, Core, Phase, Place, PlainCore, Site, Times};
 use sei_outside::SetClock;
 use sei_pass::Sealed;
-use sei_stmt::{Handler, Stmt, Table};
+use sei_stmt::{Handler, Modeled, Stmt, Table};
 use sei_words::Words;
 use std::alloc::Global;
 use std::test::Fail;
@@ -66,6 +66,17 @@ impl Handler for Service {
             Rendered::Full
         }
     }
+}
+
+/// Word 0 of the bucket is the state, and a call leaves the time there.
+impl Modeled for Service {
+    ghost use Rattle.std.specs.Prelude.{◌≡◌, ℕ, [], ◌∷◌, Some, slice_get, if◌then◌else◌};
+
+    ghost State = { ℕ };
+
+    ghost stands = { λ _ words state. slice_get words 0 ≡ Some state };
+
+    ghost answer = { λ s _ _ _ now. (now, if s.silent then [] else 65 ∷ []) };
 }
 
 /// Stores the time into word 0, and emits it.
@@ -482,4 +493,9 @@ fn an_empty_reply_is_not_sent(rt: HostRuntime) -> Result<(), Fail> {
     assert_eq!(rt; served.way.state, State::Finished);
     assert!(rt; served.shown.wire.is_empty());
     Ok(())
+}
+
+#[test]
+fn the_law_of_sound_handlers_can_be_called() {
+    sound_handlers_are_trusted::<Service>();
 }
