@@ -2,7 +2,7 @@
 use super::*;
 use mc_model::Geometry;
 use sei_code::{Buffer, Rendered, WordList};
-use sei_stmt::Handler;
+use sei_stmt::{Handler, Modeled};
 use std::alloc::Global;
 use std::test::Fail;
 
@@ -145,7 +145,7 @@ fn a_text_has_its_number(rt: HostRuntime) -> Result<(), Fail> {
     Ok(())
 }
 
-fn calls_of<H: Handler>(hands: &H, input: &[u8]) -> (Option<u64>, Option<u64>) {
+fn calls_of<H: Modeled>(hands: &H, input: &[u8]) -> (Option<u64>, Option<u64>) {
     (hands.calls(input), hands.bucket(input, 1))
 }
 
