@@ -13,7 +13,7 @@ use Rattle.sei_stmt.specs.declared.stmt.Stmt.{Stmt}
 use Rattle.sei_stmt.specs.declared.stmt.Stmt.TheVariants.{Const, Move, Add, Sub, Input, Load, Store, Emit, Jump, JumpEq, JumpLt, Now, Alloc, Parse, Render, Halt}
 use Rattle.sei_stmt.specs.Asked.{making, first_asked}
 use Rattle.sei_stmt.specs.Handling.{parsed_words, refilled}
-use Rattle.sei_stmt.specs.Honest.{after, asked_in, HonestRun}
+use Rattle.sei_stmt.specs.Honest.{after, asked_in, asked_after, HonestRun}
 use Rattle.sei_stmt.specs.Machine.{Machine, Setting, Outcome, After, register, ends}
 use Rattle.sei_stmt.specs.Machine.Outcome.{Next, Halted, Bad}
 use Rattle.sei_stmt.specs.Passes.{notes_of}
@@ -155,7 +155,7 @@ module _ (e : Errand) (time made : ℕ) (end : Machine) (whole : Whole e time ma
   whole_again = record { halts = again_at made (omega arith) ∙ ap (renoted_end end.notes) whole.run.halts }
 
   -- and a first pass asks as much at its machines as the first one asked
-  asked_same : (n : ℕ) → n ≤ made → first_asked (second_setting e) (renoted end.notes (first_start e)) n ≡ first_questions e time n
+  asked_same : (n : ℕ) → n ≤ made → first_asked (second_setting e) (renoted end.notes (first_start e)) n ≡ asked_after (at_time (first_setting e) time) (first_start e) n
   asked_same zero le = refl
   asked_same (suc n) le =
       let here : asked_in (making (second_setting e)) (after (second_setting e) (renoted end.notes (first_start e)) n).machine (after (second_setting e) (renoted end.notes (first_start e)) n).outcome

@@ -1,15 +1,18 @@
--- A phase that is next to be closed is closed.
-use Rattle.std.proofs.Common.{◌≡◌, ℕ, Bool, List, ap}
+-- A phase that is next to be closed is closed, by one test.
+use Rattle.std.proofs.Common.{◌≡◌, ℕ, ◌≤◌, Bool, List, ap, arith}
 use Rattle.std.specs.Prelude.{if◌then◌else◌}
 use Rattle.sei_fault.specs.declared.place.Phase.{Phase}
 use Rattle.sei_fault.specs.declared.place.Place.{Place}
 use Rattle.sei_fault.specs.Phases.{phase_number}
-use Rattle.sei_fault.specs.Tree.{Tree, honest}
+use Rattle.sei_fault.specs.Tree.{Tree, honest, questions}
 use Rattle.sei_gate.specs.Closing.{risen}
+use Rattle.sei_stmt.specs.Machine.{Outcome}
+use Rattle.sei_stmt.specs.Machine.Outcome.{Next, Halted, Bad}
 use Rattle.sei_traverse.specs.declared.turned.Want.TheVariants.{Nothing}
 use Rattle.sei_traverse.specs.declared.walk.Ending.TheVariants.{Leads}
 use Rattle.sei_traverse.specs.declared.walk.Walk.{Walk}
 use Rattle.sei_traverse.specs.Acts.{Acted, acted, ends, closed_to, closing_then, closes}
+use Rattle.sei_traverse.specs.PassActs.{asked_behind, first_from, second_from}
 use Rattle.sei_traverse.proofs.Branches.{same}
 
 -- the walk behind an act that closed a phase
@@ -27,3 +30,15 @@ closes_then phase w words on h =
 
 pub closes_in_turn : (phase : Phase) (w : Walk) (words : List ℕ) (to : Place) → w.gate.done ≡ phase_number phase → honest (closes phase w words Nothing to) ≡ acted (closed w) words (Leads to)
 closes_in_turn phase w words to h = closes_then phase w words (λ v. ends (record v { want = Nothing }) words (Leads to)) h
+
+-- behind a statement of a pass, no fewer questions are asked than is said
+
+pub first_behind : (w : Walk) (words : List ℕ) (o : Outcome) → asked_behind o ≤ questions (first_from w words o)
+first_behind w words (Next index) = omega arith
+first_behind w words Halted = omega arith
+first_behind w words (Bad cause) = omega arith
+
+pub second_behind : (w : Walk) (words : List ℕ) (o : Outcome) → asked_behind o ≤ questions (second_from w words o)
+second_behind w words (Next index) = omega arith
+second_behind w words Halted = omega arith
+second_behind w words (Bad cause) = omega arith

@@ -96,15 +96,15 @@ module _ (e : Errand) (trusted : IsTrusted e) (w : Walk) (passed : Passed (setti
 
 -- the words and the output that it leaves are those of an honest run
 pub good_answers : (e : Errand) → IsTrusted e → (w : Walk) (words : List ℕ) (asked n : ℕ) → ComesOn e w e.taken words Halted n →
-    first_asked (setting_on e w.wanted) (start_on e e.taken w.notes) n ≤ asked → Answers e w words asked
+    first_asked (setting_on e w.wanted) (start_on e e.taken w.notes) n + 1 ≤ asked → Answers e w words asked
 good_answers e trusted w words asked n comes asks =
     let passed = halted_passed (setting_on e w.wanted) (start_on e e.taken w.notes) (second_machine w words) n trusted.parses (record { halts = comes }) in
     let fit : IsFit e = good_fit e trusted w passed in
     let wanted : w.wanted ≡ e.call.bucket = good_wanted e trusted w passed in
     let ends : HonestRun (second_setting e) (renoted w.notes (first_start e)) (second_machine w words) n =
     subst (λ (b : ℕ). HonestRun (setting_on e b) (start_on e e.taken w.notes) (second_machine w words) n) wanted (record { halts = comes }) in
-    let asks_all : first_asked (second_setting e) (renoted w.notes (first_start e)) n ≤ asked =
-    subst (λ (b : ℕ). first_asked (setting_on e b) (start_on e e.taken w.notes) n ≤ asked) wanted asks in
+    let asks_all : first_asked (second_setting e) (renoted w.notes (first_start e)) n + 1 ≤ asked =
+    subst (λ (b : ℕ). first_asked (setting_on e b) (start_on e e.taken w.notes) n + 1 ≤ asked) wanted asks in
     let read = trusted.reads fit w.notes (second_machine w words) n ends in
     record {
       aimed = record { fit = fit; wanted = wanted };

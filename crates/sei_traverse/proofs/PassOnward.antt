@@ -9,7 +9,7 @@ use Rattle.sei_fault.specs.declared.cause.AbortCause.{AbortCause}
 use Rattle.sei_fault.specs.declared.cause.AbortCause.TheVariants.{Table}
 use Rattle.sei_fault.specs.declared.place.Act.{Act}
 use Rattle.sei_fault.specs.declared.place.Phase.TheVariants.{First, Restore, Second, Compare}
-use Rattle.sei_fault.specs.Tree.{Tree, honest, questions}
+use Rattle.sei_fault.specs.Tree.{Tree, honest, questions, bound}
 use Rattle.sei_fault.proofs.Bound.{honest_bound, questions_bound}
 use Rattle.sei_gate.specs.Closing.{risen}
 use Rattle.sei_stmt.specs.declared.stmt.Stmt.{Stmt}
@@ -27,11 +27,11 @@ use Rattle.sei_traverse.specs.declared.walk.Walk.{Walk}
 use Rattle.sei_traverse.specs.Acts.{at}
 use Rattle.sei_traverse.specs.Comes.{at_time, again, renoted, renoted_end, Agrees, Comes}
 use Rattle.sei_traverse.specs.Errand.{Errand, Follows, given_in, first_setting, first_start, IsErrand, Whole}
-use Rattle.sei_traverse.specs.PassActs.{pass_of, first_machine, second_machine, with_first, with_second, first_from, first_to, second_from, second_to}
+use Rattle.sei_traverse.specs.PassActs.{asked_behind, pass_of, first_machine, second_machine, with_first, with_second, first_from, first_to, second_from, second_to}
 use Rattle.sei_traverse.specs.Service.{setting_in}
 use Rattle.sei_traverse.specs.Step.{act_in, site_in}
-use Rattle.sei_traverse.specs.Unstruck.{IsOf, SecondIsNew, FirstRuns, InFirst, first_questions, InRestore, InSecond, InBoth, InCompare}
-use Rattle.sei_traverse.proofs.Closes.{closed, closes_in_turn}
+use Rattle.sei_traverse.specs.Unstruck.{IsOf, SecondIsNew, FirstRuns, InFirst, InRestore, InSecond, InBoth, InCompare}
+use Rattle.sei_traverse.proofs.Closes.{closed, closes_in_turn, first_behind, second_behind}
 use Rattle.sei_traverse.proofs.GoesOn.{GoesOn}
 use Rattle.sei_traverse.proofs.NoteLaws.{repeats, repeats_asked}
 use Rattle.sei_traverse.proofs.TimeLaws.{timeless_again, after_again, asked_after_again, within_clock, agrees_on, comes_on, goes_on, Stands, ends_so}
@@ -90,12 +90,17 @@ module _ (e : Errand) (now : ℕ) (w : Walk) (words : List ℕ) where
       honest_bound (step_tree (setting_in (given_in e) Making w.sealed now) w.place.index (first_machine w words)) (first_to w)
       ∙ ap (λ (s : Sealed). honest (first_to w (honest (step_tree (setting_in (given_in e) Making s now) w.place.index (first_machine w words))))) is
 
-  first_asks : w.sealed ≡ e.sealed → questions first_step ≤ questions (act_in (given_in e) now First w.place.index w words)
+  -- it asks what the statement asks, and the closing test where that halts
+  first_asks : w.sealed ≡ e.sealed → questions first_step + asked_behind first_end.outcome ≤ questions (act_in (given_in e) now First w.place.index w words)
   first_asks is =
-      let all = questions_bound (step_tree (setting_in (given_in e) Making w.sealed now) w.place.index (first_machine w words)) (first_to w) in
-      let one : questions (step_tree (setting_in (given_in e) Making w.sealed now) w.place.index (first_machine w words)) ≡ questions first_step =
-      ap (λ (s : Sealed). questions (step_tree (setting_in (given_in e) Making s now) w.place.index (first_machine w words))) is in
-      omega (arith, all, one)
+      let all = questions_bound first_step (first_to w) in
+      let behind = first_behind (with_first w first_end.machine) first_end.machine.words first_end.outcome in
+      let here : questions first_step + asked_behind first_end.outcome ≤ questions (bound first_step (first_to w)) = omega (arith, all, behind) in
+      subst (λ (s : Sealed). questions first_step + asked_behind first_end.outcome ≤ questions (bound (step_tree (setting_in (given_in e) Making s now) w.place.index (first_machine w words)) (first_to w)))
+      (sym is) here
+
+  first_asks_closing : w.sealed ≡ e.sealed → first_end.outcome ≡ Halted → questions first_step + 1 ≤ questions (act_in (given_in e) now First w.place.index w words)
+  first_asks_closing is halts = let one : asked_behind first_end.outcome ≡ 1 = ap asked_behind halts in omega (arith, first_asks is, one)
 
   module _ (errand : IsErrand e) (small : now < 2 ^ 64) (told : Follows e.clock now) (nothing : w.want ≡ Nothing) (steps asked : ℕ) (is : IsOf e w First) (second : SecondIsNew e w) (runs : FirstRuns e w words steps asked) where
     first_followed : Followed e.clock (first_setting e) (first_start e) (suc runs.made) (asked + questions first_step) first_end
@@ -148,7 +153,7 @@ module _ (e : Errand) (now : ℕ) (w : Walk) (words : List ℕ) where
       acts = first_acts is.sealed ∙ ap (λ (o : Outcome). honest (first_from (with_first w first_end.machine) first_end.machine.words o)) next;
       want = nothing;
       more = questions first_step;
-      asks = first_asks is.sealed;
+      asks = omega (arith, first_asks is.sealed);
       clean = first_next index next;
     }
 
@@ -165,7 +170,7 @@ module _ (e : Errand) (now : ℕ) (w : Walk) (words : List ℕ) where
     }
 
     first_done : first_end.outcome ≡ Halted →
-        InRestore e (record (closed (with_first w first_end.machine)) { place = at Restore 0 }) (Some first_end.machine.words) (suc steps) (asked + questions first_step)
+        InRestore e (record (closed (with_first w first_end.machine)) { place = at Restore 0 }) (Some first_end.machine.words) (suc steps) (asked + (questions first_step + 1))
     first_done halts = record {
       is = record { sealed = is.sealed; gate = ap risen is.gate };
       time = first_comes.time;
@@ -177,7 +182,7 @@ module _ (e : Errand) (now : ℕ) (w : Walk) (words : List ℕ) where
       index = omega arith;
       words = refl;
       number = omega (arith, runs.number);
-      questions = sym (first_comes.asked first_comes.time first_comes.agrees);
+      questions = omega (arith, first_comes.asked first_comes.time first_comes.agrees);
     }
 
     first_halts : first_end.outcome ≡ Halted → GoesOn e (given_in e) now First w words Some steps asked
@@ -193,8 +198,8 @@ module _ (e : Errand) (now : ℕ) (w : Walk) (words : List ℕ) where
           ∙ ap (λ (o : Outcome). honest (first_from (with_first w first_end.machine) first_end.machine.words o)) halts
           ∙ closes_in_turn First (with_first w first_end.machine) first_end.machine.words (at Restore 0) is.gate;
       want = refl;
-      more = questions first_step;
-      asks = first_asks is.sealed;
+      more = questions first_step + 1;
+      asks = first_asks_closing is.sealed halts;
       clean = first_done halts;
     }
 
@@ -298,7 +303,7 @@ module _ (e : Errand) (w : Walk) (words : List ℕ) (steps asked : ℕ) (h : InS
   second_asked_one = ap (λ (x : After). second_asked h.n + asked_in (again (first_setting e)) x.machine x.outcome) second_here
 
   -- and has asked no fewer questions
-  second_asked_all : second_end.outcome ≡ Halted → first_questions e h.time h.made ≤ second_asked (suc h.n)
+  second_asked_all : second_end.outcome ≡ Halted → asked_after (at_time (first_setting e) h.time) (first_start e) h.made ≤ second_asked (suc h.n)
   second_asked_all halts =
       let still = asked_still (at_time (first_setting e) h.time) (first_start e) (first_at (suc h.n)).machine (suc h.n) h.made second_early (first_like Halted halts) in
       let fewer = repeats_asked (at_time (first_setting e) h.time) (first_start e) refl refl h.end h.made h.whole.run h.whole.ordered (suc h.n) second_early in
@@ -330,7 +335,7 @@ module _ (e : Errand) (w : Walk) (words : List ℕ) (steps asked : ℕ) (h : InS
 
   -- both passes have come to the same end
   both_done : second_end.outcome ≡ Halted →
-      InBoth e (record (closed (with_second w second_end.machine)) { place = at Compare 0 }) (Some second_end.machine.words) h.time h.made h.end (asked + questions second_step)
+      InBoth e (record (closed (with_second w second_end.machine)) { place = at Compare 0 }) (Some second_end.machine.words) h.time h.made h.end (asked + (questions second_step + 1))
   both_done halts = record {
     whole = h.whole;
     first = record { first = h.first.first; first_log = h.first.first_log; notes = second_notes };
@@ -343,7 +348,7 @@ module _ (e : Errand) (w : Walk) (words : List ℕ) (steps asked : ℕ) (h : InS
   }
 
   second_done : second_end.outcome ≡ Halted →
-      InCompare e (record (closed (with_second w second_end.machine)) { place = at Compare 0 }) (Some second_end.machine.words) (suc steps) (asked + questions second_step)
+      InCompare e (record (closed (with_second w second_end.machine)) { place = at Compare 0 }) (Some second_end.machine.words) (suc steps) (asked + (questions second_step + 1))
   second_done halts = record {
     is = record { sealed = h.is.sealed; gate = ap risen h.is.gate };
     time = h.time;
@@ -366,12 +371,15 @@ module _ (e : Errand) (w : Walk) (words : List ℕ) (steps asked : ℕ) (h : InS
         honest_bound (step_tree (setting_in (given_in e) Reading w.sealed now) w.place.index (second_machine w words)) (second_to w)
         ∙ ap (λ (tree : Tree After). honest (second_to w (honest tree))) second_is
 
-    second_asks : questions second_step ≤ questions (act_in (given_in e) now Second w.place.index w words)
+    second_asks : questions second_step + asked_behind second_end.outcome ≤ questions (act_in (given_in e) now Second w.place.index w words)
     second_asks =
-        let all = questions_bound (step_tree (setting_in (given_in e) Reading w.sealed now) w.place.index (second_machine w words)) (second_to w) in
-        let one : questions (step_tree (setting_in (given_in e) Reading w.sealed now) w.place.index (second_machine w words)) ≡ questions second_step =
-        ap (λ (tree : Tree After). questions tree) second_is in
-        omega (arith, all, one)
+        let all = questions_bound second_step (second_to w) in
+        let behind = second_behind (with_second w second_end.machine) second_end.machine.words second_end.outcome in
+        let here : questions second_step + asked_behind second_end.outcome ≤ questions (bound second_step (second_to w)) = omega (arith, all, behind) in
+        subst (λ (tree : Tree After). questions second_step + asked_behind second_end.outcome ≤ questions (bound tree (second_to w))) (sym second_is) here
+
+    second_asks_closing : second_end.outcome ≡ Halted → questions second_step + 1 ≤ questions (act_in (given_in e) now Second w.place.index w words)
+    second_asks_closing halts = let one : asked_behind second_end.outcome ≡ 1 = ap asked_behind halts in omega (arith, second_asks, one)
 
     second_goes : (index : ℕ) → second_end.outcome ≡ Next index → GoesOn e (given_in e) now Second w words Some steps asked
     second_goes index next = record {
@@ -384,7 +392,7 @@ module _ (e : Errand) (w : Walk) (words : List ℕ) (steps asked : ℕ) (h : InS
       acts = second_acts ∙ ap (λ (o : Outcome). honest (second_from (with_second w second_end.machine) second_end.machine.words o)) next;
       want = nothing;
       more = questions second_step;
-      asks = second_asks;
+      asks = omega (arith, second_asks);
       clean = second_next index next;
     }
 
@@ -401,8 +409,8 @@ module _ (e : Errand) (w : Walk) (words : List ℕ) (steps asked : ℕ) (h : InS
           ∙ ap (λ (o : Outcome). honest (second_from (with_second w second_end.machine) second_end.machine.words o)) halts
           ∙ closes_in_turn Second (with_second w second_end.machine) second_end.machine.words (at Compare 0) h.is.gate;
       want = refl;
-      more = questions second_step;
-      asks = second_asks;
+      more = questions second_step + 1;
+      asks = second_asks_closing halts;
       clean = second_done halts;
     }
 

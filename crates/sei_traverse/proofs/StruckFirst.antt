@@ -37,7 +37,7 @@ use Rattle.sei_traverse.specs.Errand.{Errand, Follows, first_setting, first_star
 use Rattle.sei_traverse.specs.Facts.{Wanted}
 use Rattle.sei_traverse.proofs.ClosesNext.{ClosesNext}
 use Rattle.sei_traverse.proofs.ClosesNext.ClosesNext.{Stays, Closes}
-use Rattle.sei_traverse.specs.PassActs.{pass_of, first_machine, with_first, first_from, first_to}
+use Rattle.sei_traverse.specs.PassActs.{asked_behind, pass_of, first_machine, with_first, first_from, first_to}
 use Rattle.sei_traverse.specs.Service.{given_of, setting_in}
 use Rattle.sei_traverse.specs.Step.{act_in}
 use Rattle.sei_traverse.specs.Struck.{relogged, IsAimed, IsMisread, FirstStruck, StruckInFirst, WasMisread, RestoreStruck}
@@ -45,7 +45,7 @@ use Rattle.sei_traverse.specs.Struck.FirstStruck.{Restorable as Undoes, Misread 
 use Rattle.sei_traverse.specs.Struck.RestoreStruck.{Restorable as StillUndoes, Misread as HasMisread}
 use Rattle.sei_traverse.specs.Trusted.{IsTrusted}
 use Rattle.sei_traverse.specs.Unstruck.{SecondIsNew, InFirst, FirstRuns}
-use Rattle.sei_traverse.proofs.Closes.{closed, closes_in_turn}
+use Rattle.sei_traverse.proofs.Closes.{closed, closes_in_turn, first_behind}
 use Rattle.sei_traverse.proofs.PhaseLaws.{given_for, EndsRight, ActsWell, PhaseLaws}
 use Rattle.sei_traverse.proofs.PhaseLaws.LeadsWell.{Onward}
 use Rattle.sei_traverse.proofs.TimeLaws.{within_clock, agrees_on, comes_on, goes_on, Stands, ends_so}
@@ -306,7 +306,8 @@ first_struck e trusted now small told w words steps asked n y nothing h aimed s 
 
 -- but for its log, a pass with a misread word does what an honest one does
 module _ (e : Errand) (always : EndsAlways (first_setting e) (first_start e)) (now : ℕ) (small : now < 2 ^ 64) (told : Follows e.clock now) (w : Walk) (words : List ℕ) (asked : ℕ)
-    (nothing : w.want ≡ Nothing) (gate : w.gate.done ≡ phase_number First) (geometry : w.first.geometry ≡ e.geometry) (second : SecondIsNew e w) (h : IsMisread e w words asked) (total : ℕ) (many : asked + questions (first_step e now w.place.index (first_machine w words)) ≤ total) where
+    (nothing : w.want ≡ Nothing) (gate : w.gate.done ≡ phase_number First) (geometry : w.first.geometry ≡ e.geometry) (second : SecondIsNew e w) (h : IsMisread e w words asked) (total : ℕ)
+    (many : asked + (questions (first_step e now w.place.index (first_machine w words)) + asked_behind (honest (first_step e now w.place.index (first_machine w words))).outcome) ≤ total) where
   abbrev misread_step : Tree After
   misread_step = first_step e now w.place.index (first_machine w words)
 
@@ -360,6 +361,7 @@ module _ (e : Errand) (always : EndsAlways (first_setting e) (first_start e)) (n
     has_misread : misread_end.outcome ≡ Halted → WasMisread e (halted w misread_end.machine) (relogged relogs.log misread_end.machine) total
     has_misread is =
         let c : Came e (suc h.made) (h.number + questions relogged_step) (at_outcome (relogged relogs.log misread_end.machine) Halted) = came_in Halted is in
+        let one : asked_behind misread_end.outcome ≡ 1 = ap asked_behind is in
         record {
           aimed = record { fit = h.aimed.fit; wanted = h.aimed.wanted };
           time = c.comes.time;
@@ -368,7 +370,7 @@ module _ (e : Errand) (always : EndsAlways (first_setting e) (first_start e)) (n
           first = ap (λ (g : Geometry). let p : PassState = record (pass_of w.first misread_end.machine) { geometry = g } in p) geometry;
           notes = refl;
           applies = applies_on;
-          questions = omega (arith, c.comes.asked c.comes.time c.comes.agrees, h.questions, asks_fewer, many);
+          questions = omega (arith, c.comes.asked c.comes.time c.comes.agrees, h.questions, asks_fewer, many, one);
         }
 
   goes_by : (o : Outcome) → misread_end.outcome ≡ o → IsGoing o → IsGoing misread_end.outcome
@@ -396,10 +398,12 @@ module _ (e : Errand) (now : ℕ) (w : Walk) (words : List ℕ) (asked : ℕ) (n
       ActsWell e First (asked + questions (bound given_tree (first_to w))) (honest (bound given_tree (first_to w)))
   misreads_honest always small told sealed h =
       let step : Tree After = first_step e now w.place.index (first_machine w words) in
+      let all = questions_bound step (first_to w) in
+      let behind = first_behind (with_first w (honest step).machine) (honest step).machine.words (honest step).outcome in
       subst (λ (t : Tree After). ActsWell e First (asked + questions (bound t (first_to w))) (honest (bound t (first_to w))))
       (sym (given_step e now w (first_machine w words) sealed h.aimed.wanted))
       (subst (λ (y : Acted). ActsWell e First (asked + questions (bound step (first_to w))) y) (sym (honest_bound step (first_to w)))
-      (misread_acts e always now small told w words asked nothing gate geometry second h (asked + questions (bound step (first_to w))) (omega (arith, questions_bound step (first_to w)))))
+      (misread_acts e always now small told w words asked nothing gate geometry second h (asked + questions (bound step (first_to w))) (omega (arith, all, behind))))
 
   honest_stands : IsTrusted e → now < 2 ^ 64 → Follows e.clock now → w.sealed ≡ e.sealed → FirstStruck e w words asked →
       ActsWell e First (asked + questions (bound given_tree (first_to w))) (honest (bound given_tree (first_to w)))

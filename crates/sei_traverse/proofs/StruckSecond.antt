@@ -53,14 +53,14 @@ use Rattle.sei_traverse.specs.Comes.{renoted}
 use Rattle.sei_traverse.specs.Errand.{Errand, first_start}
 use Rattle.sei_traverse.specs.Facts.{Wanted}
 use Rattle.sei_traverse.proofs.ClosesNext.ClosesNext.{Stays, Closes}
-use Rattle.sei_traverse.specs.PassActs.{second_machine, with_second, second_from, second_to}
+use Rattle.sei_traverse.specs.PassActs.{asked_behind, second_machine, with_second, second_from, second_to}
 use Rattle.sei_traverse.specs.Service.{setting_in}
 use Rattle.sei_traverse.specs.Struck.{IsAimed, WasHonest, WasMisread, start_on, setting_on, ComesOn, SecondStruck, CompareStruck, On}
 use Rattle.sei_traverse.specs.Struck.SecondStruck.{Good, Misread, Damaged, Struck}
 use Rattle.sei_traverse.specs.Struck.CompareStruck.{Fine, Doubt}
 use Rattle.sei_traverse.specs.Trusted.{IsTrusted, second_setting}
 use Rattle.sei_traverse.specs.Unstruck.{InSecond}
-use Rattle.sei_traverse.proofs.Closes.{closed, closes_in_turn}
+use Rattle.sei_traverse.proofs.Closes.{closed, closes_in_turn, second_behind}
 use Rattle.sei_traverse.proofs.GoodAnswers.{good_answers}
 use Rattle.sei_traverse.proofs.PhaseLaws.{given_for, ActsWell, PhaseLaws}
 use Rattle.sei_traverse.proofs.PhaseLaws.LeadsWell.{Onward}
@@ -363,7 +363,7 @@ module _ (e : Errand) (w : Walk) (words : List ℕ) where
   notes_here : on_end.machine.notes ≡ w.notes
   notes_here = always_honest (Noted w.notes) (on_step e w words) (notes_kept (setting_on e w.wanted) w.place.index (second_machine w words) refl)
 
-  module _ (done : ℕ) (want : Want) (to : Place) (asked later : ℕ) (le : asked + questions (on_step e w words) ≤ later) (going : IsGoing on_end.outcome) where
+  module _ (done : ℕ) (want : Want) (to : Place) (asked later : ℕ) (le : asked + (questions (on_step e w words) + asked_behind on_end.outcome) ≤ later) (going : IsGoing on_end.outcome) where
     abbrev there : Walk
     there = behind w on_end.machine done want to
 
@@ -373,16 +373,16 @@ module _ (e : Errand) (w : Walk) (words : List ℕ) where
         subst (λ (k : Notes). after (setting_on e w.wanted) (start_on e found k) (suc n) ≡ on_end) (sym notes_here)
         (after_one (setting_on e w.wanted) (start_on e found w.notes) (second_machine w words) w.place.index n on_end c refl)
 
-    -- and asked no less than a first pass would
-    asked_one : (n : ℕ) → ComesOn e w e.taken words (Next w.place.index) n → first_asked (setting_on e w.wanted) (start_on e e.taken w.notes) n ≤ asked →
-        first_asked (setting_on e w.wanted) (start_on e e.taken on_end.machine.notes) (suc n) ≤ later
+    -- and asked no less than a first pass would, with the closing test where it halted
+    asked_one : (n : ℕ) → ComesOn e w e.taken words (Next w.place.index) n → first_asked (setting_on e w.wanted) (start_on e e.taken w.notes) n + 0 ≤ asked →
+        first_asked (setting_on e w.wanted) (start_on e e.taken on_end.machine.notes) (suc n) + asked_behind on_end.outcome ≤ later
     asked_one n c before =
         let g : Setting = setting_on e w.wanted in
         let x : After = after g (start_on e e.taken w.notes) n in
         let here : asked_in (making g) x.machine x.outcome ≡ questions (step_tree (making g) w.place.index (second_machine w words)) = ap (λ (x : After). asked_in (making g) x.machine x.outcome) c in
         let fewer : questions (step_tree (making g) w.place.index (second_machine w words)) ≤ questions (on_step e w words) = making_asks g w.place.index (second_machine w words) refl going in
-        let all : first_asked g (start_on e e.taken w.notes) n + asked_in (making g) x.machine x.outcome ≤ later = omega (arith, before, here, fewer, le) in
-        subst (λ (k : Notes). first_asked (setting_on e w.wanted) (start_on e e.taken k) (suc n) ≤ later) (sym notes_here) all
+        let all : first_asked g (start_on e e.taken w.notes) n + asked_in (making g) x.machine x.outcome + asked_behind on_end.outcome ≤ later = omega (arith, before, here, fewer, le) in
+        subst (λ (k : Notes). first_asked (setting_on e w.wanted) (start_on e e.taken k) (suc n) + asked_behind on_end.outcome ≤ later) (sym notes_here) all
 
     least : asked ≤ later
     least = omega (arith, le)
@@ -463,6 +463,11 @@ module _ (phase : Phase) (w : Walk) (words : List ℕ) (to : Place) (y : Acted) 
   closing_asks true n s = s
   closing_asks false n s = s
 
+  -- it asks one question at least
+  closing_counts : (n : ℕ) → StruckRun (closes phase w words Nothing to) y n → 1 ≤ n
+  closing_counts n (inl h) = omega (arith, h.asked)
+  closing_counts n (inr (m, c, s)) = omega (arith, c)
+
   closing_struck : (n : ℕ) → StruckRun (closes phase w words Nothing to) y n → Closings
   closing_struck n (inl h) = closing_ends h.answer h.end
   closing_struck n (inr (m, c, s)) = absurd (closing_asks (w.gate.done == phase_number phase) m s)
@@ -505,7 +510,7 @@ module _ (e : Errand) (w : Walk) (lent : Option (List ℕ)) (steps asked : ℕ) 
       subst (λ (b : ℕ). first_asked (setting_on e b) (start_on e e.taken w.notes) h.n ≤ asked) (sym aimed.wanted) noted
 
   clean_good : (words : List ℕ) → lent ≡ Some words → SecondStruck e w words (Next w.place.index) asked
-  clean_good words are = Good h.n (clean_comes words are) (clean_asked words are)
+  clean_good words are = Good h.n (clean_comes words are) (omega (arith, clean_asked words are))
 
   -- at any other statement it counts as struck in the second pass
   second_moved : (index : ℕ) → On lent (λ words. SecondStruck e (record w { place = at Second index }) words (Next index) asked)
@@ -525,7 +530,8 @@ module _ (e : Errand) (trusted : IsTrusted e) (now : ℕ) (w : Walk) (words : Li
       let x : After = on_end e w words in
       let all = questions_bound (on_step e w words) (second_to w) in
       let later : ℕ = asked + questions (bound (on_step e w words) (second_to w)) in
-      let le : asked + questions (on_step e w words) ≤ later = omega (arith, all) in
+      let closing = second_behind (with_second w x.machine) x.machine.words x.outcome in
+      let le : asked + (questions (on_step e w words) + asked_behind x.outcome) ≤ later = omega (arith, all, closing) in
       subst (ActsWell e Second later) (sym (honest_bound (on_step e w words) (second_to w)))
       (ends_well e trusted w x.machine later nothing right x.outcome (λ done want to going. goes_honestly e w words done want to asked later le going s))
 
@@ -554,16 +560,22 @@ module _ (e : Errand) (trusted : IsTrusted e) (now : ℕ) (w : Walk) (words : Li
       (λ done want to going. Struck h.end (was_honest e w x.machine done want to asked (asked + n) (omega arith) kept h.end was) off))
 
   -- in the closing behind Halt
-  in_closing : (m : ℕ) (o : Outcome) → (on_end e w words).outcome ≡ o → asked + questions (on_step e w words) ≤ asked + n →
+  in_closing : (m : ℕ) (o : Outcome) → (on_end e w words).outcome ≡ o → questions (on_step e w words) + m ≤ n →
       StruckRun (second_from (with_second w (on_end e w words).machine) (on_end e w words).machine.words o) y m → ActsWell e Second (asked + n) y
   in_closing m (Next i) is le s = absurd s
   in_closing m (Bad cause) is le s = absurd s
   in_closing m Halted is le s = by_case (closing_struck Second (with_second w (on_end e w words).machine) (on_end e w words).machine.words (at Compare 0) y m s)
     where
+      asks : asked + (questions (on_step e w words) + asked_behind (on_end e w words).outcome) ≤ asked + n
+      asks =
+          let one : asked_behind (on_end e w words).outcome ≡ 1 = ap asked_behind is in
+          let test : 1 ≤ m = closing_counts Second (with_second w (on_end e w words).machine) (on_end e w words).machine.words (at Compare 0) y m s in
+          omega (arith, one, test, le)
+
       good : SecondStruck e (behind w (on_end e w words).machine (risen w.gate.done) Nothing (at Compare 0)) (on_end e w words).machine.words Halted (asked + n)
       good =
           subst (λ (o : Outcome). SecondStruck e (behind w (on_end e w words).machine (risen w.gate.done) Nothing (at Compare 0)) (on_end e w words).machine.words o (asked + n)) is
-          (goes_honestly e w words (risen w.gate.done) Nothing (at Compare 0) asked (asked + n) le (subst IsGoing (sym is) tt)
+          (goes_honestly e w words (risen w.gate.done) Nothing (at Compare 0) asked (asked + n) asks (subst IsGoing (sym is) tt)
           (clean_good e w (Some words) steps asked h aimed words refl))
 
       by_case : Closings Second (with_second w (on_end e w words).machine) (on_end e w words).machine.words (at Compare 0) y → ActsWell e Second (asked + n) y

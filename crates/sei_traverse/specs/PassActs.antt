@@ -30,6 +30,12 @@ with_first w m = record w { first = pass_of w.first m; first_log = m.log; notes 
 abbrev pub with_second : Walk → Machine → Walk
 with_second w m = record w { second = pass_of w.second m; second_log = m.log; notes = m.notes }
 
+-- how many questions are asked behind a statement: where it halts, the test that closes the phase
+abbrev pub asked_behind : Outcome → ℕ
+asked_behind (Next index) = 0
+asked_behind Halted = 1
+asked_behind (Bad cause) = 0
+
 -- a statement leads to the next one, and Halt closes the phase
 
 abbrev pub first_from : Walk → List ℕ → Outcome → Tree Acted

@@ -1,5 +1,5 @@
 -- Where a traversal stands that was struck once, and whose gate closed as many phases as stand before its own.
-use Rattle.std.specs.Prelude.{◌≡◌, ◌≢◌, ℕ, ◌-◌, ◌<◌, ◌≤◌, List, length, take, Option, Some, None, slice_get}
+use Rattle.std.specs.Prelude.{◌≡◌, ◌≢◌, ℕ, ◌+◌, ◌-◌, ◌<◌, ◌≤◌, List, length, take, Option, Some, None, slice_get}
 use Rattle.sei_code.specs.Coded.{sealed}
 use Rattle.sei_code.specs.Kept.{Kept, empty_kept}
 use Rattle.sei_fault.specs.declared.place.Phase.{Phase}
@@ -18,7 +18,7 @@ use Rattle.sei_pass.specs.Steps.{machine_of}
 use Rattle.sei_traverse.specs.declared.walk.Walk.{Walk}
 use Rattle.sei_traverse.specs.Comes.{renoted, Comes}
 use Rattle.sei_traverse.specs.Errand.{Errand, first_setting, first_start, Follows, Whole}
-use Rattle.sei_traverse.specs.PassActs.{pass_of, first_machine, second_machine}
+use Rattle.sei_traverse.specs.PassActs.{asked_behind, pass_of, first_machine, second_machine}
 use Rattle.sei_traverse.specs.Phases.{reply_of}
 use Rattle.sei_traverse.specs.Service.{given_of, setting_in}
 use Rattle.sei_traverse.specs.Trusted.{IsFit, second_setting}
@@ -34,6 +34,11 @@ pub record IsAimed (e : Errand) (w : Walk) : Type 0 where
   pub fit : IsFit e
   pub wanted : w.wanted ≡ e.call.bucket
 
+-- the questions of an honest run of so many statements, by a time and a slot, as a first pass: those of its statements,
+-- and the test behind Halt that closes its phase
+abbrev pub run_questions : Errand → ℕ → ℕ → ℕ → ℕ
+run_questions e time slot made = first_asked (second_setting e) (renoted (notes_of time slot) (first_start e)) made + 1
+
 -- what holds of each traversal that comes to Enter: the words and the reply are those that an honest run on the
 -- words that were taken leaves, by the noted time and some slot, and at least as many questions were asked as it asks
 pub record Answers (e : Errand) (w : Walk) (words : List ℕ) (asked : ℕ) : Type 0 where
@@ -46,7 +51,7 @@ pub record Answers (e : Errand) (w : Walk) (words : List ℕ) (asked : ℕ) : Ty
   pub run : HonestRun (second_setting e) (renoted (notes_of time slot) (first_start e)) end made
   pub words_are : words ≡ end.words
   pub reply : reply_of w ≡ end.bytes.items
-  pub questions : first_asked (second_setting e) (renoted (notes_of time slot) (first_start e)) made ≤ asked
+  pub questions : run_questions e time slot made ≤ asked
 
 -- the first pass
 
@@ -134,9 +139,10 @@ setting_on e bucket = setting_in (given_of e.service e.input e.geometry (Some bu
 abbrev pub ComesOn : Errand → Walk → List ℕ → List ℕ → Outcome → ℕ → Type 0
 ComesOn e w found words o n = after (setting_on e w.wanted) (start_on e found w.notes) n ≡ record { machine = second_machine w words; outcome = o }
 
--- it is honest on the words that were taken; or on words that differ from them; or it was struck itself, and the first one was honest
+-- it is honest on the words that were taken, and has asked no less than a first pass would; or on words that differ from
+-- them; or it was struck itself, and the first one was honest
 pub data SecondStruck (e : Errand) (w : Walk) (words : List ℕ) (o : Outcome) (asked : ℕ) : Type 0 where
-  Good : (n : ℕ) → ComesOn e w e.taken words o n → first_asked (setting_on e w.wanted) (start_on e e.taken w.notes) n ≤ asked → SecondStruck e w words o asked
+  Good : (n : ℕ) → ComesOn e w e.taken words o n → first_asked (setting_on e w.wanted) (start_on e e.taken w.notes) n + asked_behind o ≤ asked → SecondStruck e w words o asked
   Misread : (end : Machine) → WasMisread e w end asked → (found : List ℕ) → SameOff w.first_log.items found e.taken → (n : ℕ) → ComesOn e w found words o n → SecondStruck e w words o asked
   Damaged : (end : Machine) → WasHonest e w end asked → (place : ℕ) (c : Change) → Stands w.first_log.items place c →
       (found : List ℕ) → slice_get found c.address ≢ Some c.was → (n : ℕ) → ComesOn e w found words o n → SecondStruck e w words o asked

@@ -110,9 +110,10 @@ pub record InFirst (e : Errand) (w : Walk) (lent : Option (List ℕ)) (steps ask
   pub second : SecondIsNew e w
   pub at : FirstAt e w lent steps asked
 
--- the questions of so many statements of the first pass at a time
+-- the questions of a whole first pass of so many statements at a time: those of its statements, and the test behind Halt
+-- that closes its phase
 abbrev pub first_questions : Errand → ℕ → ℕ → ℕ
-first_questions e time n = asked_after (at_time (first_setting e) time) (first_start e) n
+first_questions e time n = asked_after (at_time (first_setting e) time) (first_start e) n + 1
 
 -- as many of its changes are undone as the index says
 pub record InRestore (e : Errand) (w : Walk) (lent : Option (List ℕ)) (steps asked : ℕ) : Type 0 where

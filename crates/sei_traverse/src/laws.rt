@@ -61,7 +61,8 @@ pub fn steps_are_bounded()
 
 /// Without a strike, from the want of Enter on, both passes were made: the words are those that an
 /// honest run leaves, which is by the noted time where one was noted, the reply and the copy for the
-/// wire are its output, and at least twice as many questions were asked as it asks.
+/// wire are its output, and at least twice as many questions were asked as it asks with the test behind
+/// `Halt` that closes its phase.
 pub fn both_passes_are_made()
     ensures entered { (e : Errand) (t : TraversalState) (lent : Option (List ℕ)) (begin now : Counts) → t.walk.place.phase ≡ Phase.Give →
         OnWay e t lent begin now → now.struck ≡ begin.struck → IsServed e t lent begin now }
