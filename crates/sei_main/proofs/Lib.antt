@@ -26,9 +26,7 @@ pub mod Fitting
 pub mod Running
 pub mod CallsSoFar
 pub mod Taking
-pub mod NumberLaws
 pub mod TableLaws
-pub mod ErrandLaws
 pub mod TableCalls
 pub mod Turns
 pub mod HandsTrusted

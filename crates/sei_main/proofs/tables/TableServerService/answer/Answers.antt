@@ -7,8 +7,7 @@ use Rattle.sei_pass.specs.Setting.{sealed_call}
 use Rattle.sei_pass.specs.State.{input_room}
 use Rattle.sei_hand.specs.Requests.{parsed_call}
 use Rattle.sei_main.specs.Tables.{Tables}
-use Rattle.sei_main.proofs.ErrandLaws.{words_go_in}
-use Rattle.sei_main.proofs.TableCalls.{bytes_of, asked_of, sealed_is}
+use Rattle.sei_main.proofs.TableCalls.{bytes_of, asked_of, sealed_is, words_go_in}
 use Rattle.sei_main.proofs.tables.TableServerService.answer.Goals as goal
 
 pub traverse-requires-clause-room : goal.traverse-requires-clause-room
