@@ -1,5 +1,5 @@
 -- What the calls of a request do to the history, on a server that isolates faults.
-use Rattle.std.proofs.Common.{◌≡◌, ◌⊎◌, inl, inr, ℕ, suc, ◌+◌, ◌<◌, ◌^◌, List, [], ◌∷◌, ◌++◌, length, refl, ap, sym, ◌∙◌, subst, arith, Option, Some, None}
+use Rattle.std.proofs.Common.{◌≡◌, ◌⊎◌, inl, inr, ℕ, suc, ◌+◌, ◌<◌, ◌^◌, true, List, [], ◌∷◌, ◌++◌, length, refl, ap, sym, ◌∙◌, subst, arith, Option, Some, None}
 use Rattle.std.specs.Prelude.{slice_get, All}
 use Rattle.std.proofs.lemmas.List.{append_assoc, append-nil, length-append}
 use Rattle.mc_model.specs.declared.geometry.Geometry.{Geometry}
@@ -15,16 +15,17 @@ use Rattle.sei_main.specs.declared.world.service.Entered.{Entered as EntryOf}
 use Rattle.sei_main.specs.declared.world.service.Served.{Served}
 use Rattle.sei_main.specs.Answering.{Asked, Answering, AnswerOf}
 use Rattle.sei_main.specs.Asked.{IsCallAt}
+use Rattle.sei_main.specs.Ends.{has_abort}
 use Rattle.sei_main.specs.Events.{Event, Entered}
 use Rattle.sei_main.specs.History.{Entry, IsLegal}
 use Rattle.sei_main.specs.Own.{AreCounted, calls_in, message_of, messages_of}
 use Rattle.sei_main.specs.Plans.{plan_at}
 use Rattle.sei_main.specs.State.{entry_for, entry_events, limits_of}
 use Rattle.sei_main.specs.Serving.{Asking, AnswersOf, asked_in, entered_events, sent_events, ended_events, served_events, on_with, answer_in, answers_by}
-use Rattle.sei_main.proofs.EndLaws.{GoesOn, EndsStruck, goes_nil, goes_append, goes_entry, goes_sending, goes_refused, ends_append, ends_aborted}
+use Rattle.sei_main.proofs.EndLaws.{GoesOn, EndsStruck, goes_nil, goes_append, goes_entry, goes_sending, goes_refused, ends_append, ends_aborted, abort_behind}
 use Rattle.sei_main.proofs.KeptServer.{ServerKept, StandsAt, answer_kept}
-use Rattle.sei_main.proofs.Outcomes.{IsolatesFaults, Outcome, IsStruck, HasPlan, refused_served, entry, reply}
-use Rattle.sei_main.proofs.Outcomes.Outcome.{AsThere, TurnedAway, Stopped}
+use Rattle.sei_main.specs.Outcomes.{IsolatesFaults, Outcome, IsStruck, HasPlan, refused_served, entry, reply}
+use Rattle.sei_main.specs.Outcomes.Outcome.{AsThere, TurnedAway, Stopped}
 use Rattle.sei_main.proofs.OwnEvents.{IsOwnOf, own_none, own_entry, own_message, own_ended, own_append, own_behind}
 use Rattle.sei_main.proofs.Simulated.{plain_events}
 
@@ -54,7 +55,7 @@ pub data AnswersKept {S : Type 0} (R : S → Server → Type 0) (g : Geometry) (
   Turned : (entries : List Entry) → IsPart g history c n messages calls x.events x.messages entries entries → x.state ≡ Refused → 0 < length plans
       → GoesOn x.events → StandsBehind R g x.server (history ++ entries) → AnswersKept R g history c n messages plans calls x
   Ended : (entries answered : List Entry) → IsPart g history c n messages calls x.events x.messages entries answered → IsPrefixOf answered entries → (abort : Abort) → x.state ≡ Aborted abort
-      → 0 < length plans → EndsStruck x.events → AnswersKept R g history c n messages plans calls x
+      → 0 < length plans → EndsStruck x.events → has_abort x.events ≡ true → AnswersKept R g history c n messages plans calls x
 
 -- one call more in front
 
@@ -115,8 +116,8 @@ module _ {S : Type 0} (R : S → Server → Type 0) (g : Geometry) (q : Asking) 
         Whole (e ∷ entries) (more entries entries part) state (ap (λ (ps : List Placed). ps ++ calls_in entries) is ∙ ap (λ (ps : List Placed). p ∷ ps) all) (goes_append here.events later.events goes_here goes) (stands_more entries stands)
     kept_more (Turned entries part state planned goes stands) =
         Turned (e ∷ entries) (more entries entries part) state planned (goes_append here.events later.events goes_here goes) (stands_more entries stands)
-    kept_more (Ended entries answered part first abort state planned ends) =
-        Ended (e ∷ entries) (e ∷ answered) (more entries answered part) (prefix_more e answered entries first) abort state planned (ends_append here.events later.events goes_here ends)
+    kept_more (Ended entries answered part first abort state planned ends told) =
+        Ended (e ∷ entries) (e ∷ answered) (more entries answered part) (prefix_more e answered entries first) abort state planned (ends_append here.events later.events goes_here ends) (abort_behind here.events later.events told)
 
   -- a call whose traversal did not finish: what was entered and sent of it
   part_last : (history : List Entry) (n messages : ℕ) (p : Placed) (calls : List Placed) (x : Served) (strikes : ℕ) (entries answered : List Entry) → IsPrefixOf (calls_in entries) (p ∷ calls) → AreCounted n entries
@@ -199,12 +200,18 @@ module _ {S : Type 0} (answering : Answering S) (R : S → Server → Type 0) (g
         ends_append (entered_events q.connection n p x.served.entered) (sent_events q.connection x.served.message ++ ended_events q.connection n x.served.state x.strikes) (goes_entered x.served.entered)
         (ends_append (sent_events q.connection x.served.message) (ended_events q.connection n x.served.state x.strikes) (goes_sending q.connection (message_of x.served.message)) last)
 
+    told_here : (abort : Abort) → x.served.state ≡ Aborted abort → has_abort here.events ≡ true
+    told_here abort is =
+        let last : has_abort (ended_events q.connection n x.served.state x.strikes) ≡ true = ap (λ (state : State). has_abort (ended_events q.connection n state x.strikes)) is in
+        abort_behind (entered_events q.connection n p x.served.entered) (sent_events q.connection x.served.message ++ ended_events q.connection n x.served.state x.strikes)
+        (abort_behind (sent_events q.connection x.served.message) (ended_events q.connection n x.served.state x.strikes) last)
+
     ended_with : (abort : Abort) → x.served.state ≡ Aborted abort → IsStruck R t a x → (entries answered : List Entry) → IsPrefixOf (calls_in entries) (p ∷ calls) → AreCounted n entries
         → IsOwnOf q.connection (entered_events q.connection n p x.served.entered) entries [] → IsOwnOf q.connection (sent_events q.connection x.served.message) [] answered
         → length (message_of x.served.message) ≡ length (messages_of answered) → IsLegal g (history ++ entries) → IsPrefixOf answered entries
         → AnswersKept R g history q.connection n messages q.plans (p ∷ calls) here
     ended_with abort is struck entries answered are counted entered sent long legal first =
-        Ended entries answered (part_last R g q history n messages p calls x.served x.strikes entries answered are counted entered sent long legal) first abort is (planned struck) (ends_here abort is struck)
+        Ended entries answered (part_last R g q history n messages p calls x.served x.strikes entries answered are counted entered sent long legal) first abort is (planned struck) (ends_here abort is struck) (told_here abort is)
 
     entered_none : x.served.entered ≡ None → IsOwnOf q.connection (entered_events q.connection n p x.served.entered) [] []
     entered_none f = subst (λ (o : Option EntryOf). IsOwnOf q.connection (entered_events q.connection n p o) [] []) (sym f) (own_none q.connection)

@@ -18,6 +18,7 @@ use Rattle.sei_main.specs.Answering.{Answering}
 use Rattle.sei_main.specs.Asked.{IsCallAt}
 use Rattle.sei_main.specs.History.{Entry, IsLegal}
 use Rattle.sei_main.specs.Own.{calls_in, own_entries, messages_of}
+use Rattle.sei_main.specs.Ends.{has_abort}
 use Rattle.sei_main.specs.Events.{Event, entries_of, sent_to}
 use Rattle.sei_main.specs.Seats.{Seat, empty_seat, taken_more, stopped}
 use Rattle.sei_main.specs.State.{ToldOf, Stepping, told, idle, behind, closed_events, next_request, limits_of, seat_at, round_from_by, round_by, rounds_by}
@@ -26,9 +27,10 @@ use Rattle.sei_main.proofs.Answering.{entries_append, sent_append}
 use Rattle.sei_main.proofs.AnswersKept.{AnswersKept, IsPart, StandsBehind, answers_kept}
 use Rattle.sei_main.proofs.AnswersKept.AnswersKept.{Whole, Turned, Ended}
 use Rattle.sei_main.proofs.Calls.{calls_stand}
-use Rattle.sei_main.proofs.EndLaws.{GoesOn, EndsStruck, goes_append, goes_closed, ends_append, ends_none}
+use Rattle.sei_main.proofs.EndLaws.{GoesOn, EndsStruck, goes_append, goes_closed, ends_append, ends_none, abort_behind}
 use Rattle.sei_main.proofs.KeptSeat.{SeatKept, taken_kept}
-use Rattle.sei_main.proofs.Outcomes.{AsksCalls, IsolatesFaults}
+use Rattle.sei_main.specs.Outcomes.{IsolatesFaults}
+use Rattle.sei_main.proofs.Outcomes.{AsksCalls}
 use Rattle.sei_main.proofs.OwnEvents.{IsOwnOf, own_behind, own_closed}
 use Rattle.sei_main.proofs.Rounds.{IsWithin, next_within}
 use Rattle.sei_main.proofs.SeatBytes.{IsFedBytes, fed_at}
@@ -44,6 +46,7 @@ pub record Kept {S : Type 0} (R : S → Server → Type 0) (g : Geometry) (plans
   pub bytes : All IsFedBytes t.state.seats
   pub legal : IsLegal g (entries_of t.events)
   pub ends : EndsStruck t.events
+  pub told : t.state.aborted ≡ true → has_abort t.events ≡ true
   -- until a traversal aborts
   pub goes : t.state.aborted ≡ false → GoesOn t.events
   pub stands : t.state.aborted ≡ false → StandsBehind R g t.state.server (entries_of t.events)
@@ -119,6 +122,7 @@ module _ {S : Type 0} (R : S → Server → Type 0) (g : Geometry) (plans : List
       pub stands : SeatStands (length plans) (limits_of g) (fed c) (own_entries c history ++ entries) (sent_to c t.events ++ messages_of answered) new
       pub fed_is : new.fed ≡ seat.fed
       pub ends : EndsStruck later
+      pub told : is_abort x.state ≡ true → has_abort later ≡ true
       pub goes_on : is_abort x.state ≡ false → GoesOn later
       pub server : is_abort x.state ≡ false → StandsBehind R g x.server (history ++ entries)
 
@@ -132,6 +136,7 @@ module _ {S : Type 0} (R : S → Server → Type 0) (g : Geometry) (plans : List
           bytes = All-set IsFedBytes t.state.seats c new (subst (All (λ b. b < 256)) (sym h.fed_is) (fed_at t.state.seats c k.bytes)) k.bytes;
           legal = subst (IsLegal g) (sym all) h.legal;
           ends = ends_append t.events later (k.goes goes) h.ends;
+          told = λ e. abort_behind t.events later (h.told e);
           goes = λ e. goes_append t.events later (k.goes goes) (h.goes_on e);
           stands = λ e. subst (StandsBehind R g x.server) (sym all) (h.server e);
           seats = λ d. keep_at t c d later entries answered new (c == d) refl h.own k h.stands (has_seat (limits_of g) t.state.seats c size m next);
@@ -156,14 +161,15 @@ module _ {S : Type 0} (R : S → Server → Type 0) (g : Geometry) (plans : List
               (taken_kept l (fed c) (own_entries c history) (sent_to c t.events) seat size m entries next all part.counted open_kept));
           fed_is = ap (λ (s : Seat). s.fed) new_is;
           ends = ends_none later goes_later;
+          told = λ e. let z : false ≡ true = sym (ap is_abort state) ∙ e in cc;
           goes_on = λ e. goes_later;
           server = λ e. server;
         }
 
     -- the connection stopped in it
     cut : (entries answered : List Entry) → IsPart g history c seat.entered 0 (calls_of g.buckets m) x.events x.messages entries answered → IsPrefixOf answered entries → 0 < length plans
-        → new ≡ stopped seat x.messages → later ≡ x.events → EndsStruck x.events → (is_abort x.state ≡ false → GoesOn x.events) → (is_abort x.state ≡ false → StandsBehind R g x.server (history ++ entries)) → IsTaken entries answered
-    cut entries answered part first planned new_is later_is ends goes_on server =
+        → new ≡ stopped seat x.messages → later ≡ x.events → EndsStruck x.events → (is_abort x.state ≡ true → has_abort x.events ≡ true) → (is_abort x.state ≡ false → GoesOn x.events) → (is_abort x.state ≡ false → StandsBehind R g x.server (history ++ entries)) → IsTaken entries answered
+    cut entries answered part first planned new_is later_is ends told goes_on server =
         let sent : x.messages ≡ length (messages_of answered) = omega (arith, part.sent_is) in
         let seat_is : new ≡ stopped seat (length (messages_of answered)) = new_is ∙ ap (stopped seat) sent in
         record {
@@ -173,6 +179,7 @@ module _ {S : Type 0} (R : S → Server → Type 0) (g : Geometry) (plans : List
               (stopped_stands (length plans) (limits_of g) (fed c) (own_entries c history) entries answered (sent_to c t.events) seat size m next planned part.calls_are part.counted first open_kept);
           fed_is = ap (λ (s : Seat). s.fed) new_is;
           ends = subst EndsStruck (sym later_is) ends;
+          told = λ e. ap has_abort later_is ∙ told e;
           goes_on = λ e. subst GoesOn (sym later_is) (goes_on e);
           server = server;
         }
@@ -183,10 +190,10 @@ module _ {S : Type 0} (R : S → Server → Type 0) (g : Geometry) (plans : List
     takes_kept : AnswersKept R g history c seat.entered 0 plans (calls_of g.buckets m) x → Kept R g plans fed next_told
     takes_kept (Whole entries part state all goes_on server) = taken entries entries (whole entries part state all goes_on server)
     takes_kept (Turned entries part state planned goes_on server) =
-        taken entries entries (cut entries entries part ([], sym (append-nil entries)) planned (ap (λ (o : EndState). seat_for o seat size count x.messages closes) state) (silent Refused state refl) (ends_none x.events goes_on) (λ e. goes_on) (λ e. server))
-    takes_kept (Ended entries answered part first abort state planned ends) =
+        taken entries entries (cut entries entries part ([], sym (append-nil entries)) planned (ap (λ (o : EndState). seat_for o seat size count x.messages closes) state) (silent Refused state refl) (ends_none x.events goes_on) (λ e. let z : false ≡ true = sym (ap is_abort state) ∙ e in cc) (λ e. goes_on) (λ e. server))
+    takes_kept (Ended entries answered part first abort state planned ends told) =
         taken entries answered
-        (cut entries answered part first planned (ap (λ (o : EndState). seat_for o seat size count x.messages closes) state) (silent (Aborted abort) state refl) ends
+        (cut entries answered part first planned (ap (λ (o : EndState). seat_for o seat size count x.messages closes) state) (silent (Aborted abort) state refl) ends (λ e. told)
         (λ e. let z : true ≡ false = sym (ap is_abort state) ∙ e in cc) (λ e. let z : true ≡ false = sym (ap is_abort state) ∙ e in cc))
 
 module _ {S : Type 0} (answering : Answering S) (R : S → Server → Type 0) (g : Geometry) (isolates : IsolatesFaults answering g R) (asks : AsksCalls g) (some : 0 < g.buckets) (plans : List (CallNumber × Planned)) (fed : ℕ → List ℕ) where

@@ -29,7 +29,8 @@ use Rattle.sei_main.specs.Headline.{fed_to, fed_by}
 use Rattle.sei_main.proofs.EndLaws.{goes_nil, ends_none}
 use Rattle.sei_main.proofs.Kept.{Kept, rounds_keep}
 use Rattle.sei_main.proofs.KeptServer.{start_server}
-use Rattle.sei_main.proofs.Outcomes.{AsksCalls, IsolatesFaults}
+use Rattle.sei_main.specs.Outcomes.{IsolatesFaults}
+use Rattle.sei_main.proofs.Outcomes.{AsksCalls}
 use Rattle.sei_main.proofs.Rounds.{led_length}
 use Rattle.sei_main.proofs.SeatBytes.{IsFedBytes, fed_at}
 use Rattle.sei_main.proofs.SeatStands.{SeatStands, fed_stands, empty_stands}
@@ -67,6 +68,7 @@ module _ {S : Type 0} (R : S → Server → Type 0) (g : Geometry) (plans : List
     bytes = k.bytes;
     legal = k.legal;
     ends = k.ends;
+    told = k.told;
     goes = k.goes;
     stands = k.stands;
     seats = λ c. refed_seat (length plans) (limits_of g) (fed c) (fed' c) _ _ _ (e c) (k.seats c);
@@ -84,6 +86,7 @@ module _ {S : Type 0} (R : S → Server → Type 0) (g : Geometry) (plans : List
         bytes = bytes;
         legal = k.legal;
         ends = k.ends;
+        told = k.told;
         goes = k.goes;
         stands = k.stands;
         seats = each;
@@ -100,6 +103,7 @@ module _ {S : Type 0} (R : S → Server → Type 0) (g : Geometry) (plans : List
         bytes = k.bytes;
         legal = k.legal;
         ends = k.ends;
+        told = k.told;
         goes = k.goes;
         stands = k.stands;
         seats = k.seats;
@@ -186,6 +190,7 @@ run_keeps {S} answering R s script x isolates asks some related says none fit =
       bytes = All-nil IsFedBytes;
       legal = tt;
       ends = ends_none [] goes_nil;
+      told = λ e. e;
       goes = λ e. goes_nil;
       stands = λ e. record { server = empty_server (geometry_of script); related = related; kept = start_server (geometry_of script) };
       seats = λ c. subst (λ (seat : Seat). SeatStands (length (plans_of script)) (limits_of (geometry_of script)) [] [] [] seat) (sym (empty_at c)) (empty_stands (length (plans_of script)) (limits_of (geometry_of script)));

@@ -18,6 +18,7 @@ use Rattle.sei_script.specs.SaysBytes.{SaysBytes}
 use Rattle.sei_main.specs.declared.plans.CallNumber.{CallNumber}
 use Rattle.sei_main.specs.History.{Entry}
 use Rattle.sei_main.specs.Own.{own_entries, calls_in}
+use Rattle.sei_main.specs.Ends.{has_abort}
 use Rattle.sei_main.specs.Events.{sent_to}
 use Rattle.sei_main.specs.Plans.{plans_of}
 use Rattle.sei_main.specs.Seats.{Seat, empty_seat, waiting}
@@ -32,7 +33,8 @@ use Rattle.sei_main.proofs.KeptRun.{run_keeps}
 use Rattle.sei_main.proofs.KeptSeat.{SeatKept}
 use Rattle.sei_main.proofs.SeatStands.{SeatStands, SentStands, numbered_stands, sent_stands, unstopped, calls_split}
 use Rattle.sei_main.proofs.Simulated.{plans_nothing}
-use Rattle.sei_main.proofs.TableLaws.{AreServerOf, fresh_are_server}
+use Rattle.sei_main.specs.Tables.{AreServerOf}
+use Rattle.sei_main.proofs.TableLaws.{fresh_are_server}
 use Rattle.sei_main.proofs.TableRuns.{RunIsPlain, tables_isolate, asks_calls, run_is_plain}
 
 -- a script that may be run
@@ -63,7 +65,14 @@ sent script r c =
     record { answered = s.answered; first = s.first; sent = s.sent_is; took = s.took }
 
 pub nothing_after_abort : (script : List ScriptLine) → IsRunnable script → NothingAfterAbortRun script
-nothing_after_abort script r = (kept script r).ends.last
+nothing_after_abort script r =
+    let k = kept script r in
+    record { told = by (struck_run_of script).state.aborted refl k; last = k.ends.last }
+  where
+    by : (aborted : Bool) → (struck_run_of script).state.aborted ≡ aborted → Kept (AreServerOf (geometry_of script)) (geometry_of script) (plans_of script) (λ c. fed_to c script) (struck_run_of script)
+        → (struck_run_of script).state.aborted ≡ has_abort (struck_run_of script).events
+    by true e k = e ∙ sym (k.told e)
+    by false e k = e ∙ sym (k.goes e).none
 
 pub only_struck : (script : List ScriptLine) → IsRunnable script → OnlyStruckAbortsRun script
 only_struck script r = (kept script r).ends.struck

@@ -1,73 +1,26 @@
--- What becomes of a call on a server that stands for a plain one: what the plain server does, or a fault struck.
-use Rattle.std.proofs.Common.{◌≡◌, ◌⊎◌, ℕ, ◌^◌, ◌<◌, List, [], Option, Some, None, sym, ◌∙◌}
-use Rattle.std.specs.Prelude.{All, slice_get, take}
+-- What becomes of a call on a server that isolates faults.
+use Rattle.std.proofs.Common.{◌≡◌, ℕ, ◌<◌, Option, Some, None, take, sym, ◌∙◌}
+use Rattle.std.specs.Prelude.{All, slice_get}
 use Rattle.mc_model.specs.declared.geometry.Geometry.{Geometry}
 use Rattle.mc_model.specs.Call.{Placed}
-use Rattle.mc_model.specs.Server.{Server, server_answer}
+use Rattle.mc_model.specs.Server.{Server}
 use Rattle.mc_text.specs.Meaning.{Meaning, calls_of}
 use Rattle.sei_fault.specs.declared.plan.Planned.{Planned}
-use Rattle.sei_traverse.specs.declared.turned.Abort.{Abort}
-use Rattle.sei_traverse.specs.declared.turned.State.TheVariants.{Refused, Aborted}
-use Rattle.sei_main.specs.declared.world.service.Entered.{Entered}
-use Rattle.sei_main.specs.declared.world.service.Served.{Served}
-use Rattle.sei_main.specs.Answering.{Asked, Answering, AnswerOf, plain_served}
+use Rattle.sei_main.specs.Answering.{Asked, AnswerOf}
 use Rattle.sei_main.specs.Asked.{IsCallAt}
+use Rattle.sei_main.specs.Outcomes.{Outcome, IsAsThere}
+use Rattle.sei_main.specs.Outcomes.Outcome.{AsThere, TurnedAway, Stopped}
 use Rattle.sei_main.specs.Seats.{Seat, waiting}
 use Rattle.sei_main.specs.State.{limits_of, next_request}
-
--- a call of a request in bytes
-pub record IsAskedOf (g : Geometry) (a : Asked) : Type 0 where
-  pub call : IsCallAt (limits_of g) a.text a.nth a.placed
-  pub bytes : All (λ b. b < 256) a.text
-  pub small : a.now < 2 ^ 64
 
 -- the calls of each request that may wait at a connection that was fed bytes are those of its text
 abbrev pub AsksCalls : Geometry → Type 0
 AsksCalls g = (seat : Seat) (size : ℕ) (m : Meaning) → All (λ b. b < 256) seat.fed → next_request (limits_of g) seat ≡ Some (size, m) →
     All (λ b. b < 256) (take size (waiting seat)) × ((k : ℕ) (p : Placed) → slice_get (calls_of g.buckets m) k ≡ Some p → IsCallAt (limits_of g) (take size (waiting seat)) k p)
 
--- a call that is refused: nothing was done for it
-abbrev pub refused_served : Served
-refused_served = record { entered = None; message = []; state = Refused }
-
--- a fault was planned
-abbrev pub HasPlan : Option Planned → Type 0
-HasPlan plan = (q : Planned) × (plan ≡ Some q)
-
--- the plain server answers so
 module _ {S : Type 0} (R : S → Server → Type 0) (t : Server) (a : Asked) (x : AnswerOf S) where
-  abbrev pub reply : List ℕ
-  reply = (server_answer t a.now a.placed).1
-
-  abbrev pub entry : Entered
-  entry = record { now = a.now; reply = reply }
-
-  -- as the plain server does
-  pub record IsAsThere : Type 0 where
-    pub same : x.served ≡ plain_served a.now reply
-    pub server : R x.server (server_answer t a.now a.placed).0
-
-  -- a fault was planned for its traversal, and struck
-  pub record IsStruck : Type 0 where
-    pub struck : 0 < x.strikes
-    pub planned : HasPlan a.plan
-
-  -- entered with the plain server's reply, at the time, or not at all; and nothing is sent but that reply of an entry
-  pub record IsHarmless : Type 0 where
-    pub enters : (x.served.entered ≡ None) ⊎ (x.served.entered ≡ Some entry)
-    pub sends : (x.served.message ≡ []) ⊎ ((x.served.entered ≡ Some entry) × (x.served.message ≡ reply))
-
-  pub data Outcome : Type 0 where
-    AsThere : IsAsThere → Outcome
-    TurnedAway : x.served ≡ refused_served → R x.server t → IsStruck → Outcome
-    Stopped : (abort : Abort) → x.served.state ≡ Aborted abort → IsHarmless → IsStruck → Outcome
-
   -- without a plan it is answered as the plain server does
-  pub unplanned : Outcome → a.plan ≡ None → IsAsThere
+  pub unplanned : Outcome R t a x → a.plan ≡ None → IsAsThere R t a x
   unplanned (AsThere h) none = h
   unplanned (TurnedAway same r struck) none = let z : ◌≡◌ {A = Option Planned} None (Some struck.planned.0) = sym none ∙ struck.planned.1 in cc
   unplanned (Stopped abort e harmless struck) none = let z : ◌≡◌ {A = Option Planned} None (Some struck.planned.0) = sym none ∙ struck.planned.1 in cc
-
--- a server, related to a plain one, has one of these outcomes for each call, and is related behind it
-abbrev pub IsolatesFaults : {S : Type 0} → Answering S → Geometry → (S → Server → Type 0) → Type 0
-IsolatesFaults {S} answering g R = (s : S) (t : Server) (a : Asked) → IsAskedOf g a → R s t → Outcome R t a (answering s a)

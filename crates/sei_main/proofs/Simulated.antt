@@ -20,7 +20,8 @@ use Rattle.sei_main.specs.declared.plans.CallNumber.{CallNumber}
 use Rattle.sei_main.specs.declared.world.service.Served.{Served}
 use Rattle.sei_main.specs.Answering.{Asked, Answering, plain_served}
 use Rattle.sei_main.specs.Asked.{IsCallAt}
-use Rattle.sei_main.proofs.Outcomes.{IsAskedOf, AsksCalls, IsolatesFaults, IsAsThere, unplanned}
+use Rattle.sei_main.specs.Outcomes.{IsAskedOf, IsolatesFaults, IsAsThere}
+use Rattle.sei_main.proofs.Outcomes.{AsksCalls, unplanned}
 use Rattle.sei_main.specs.Own.{message_of, messages_of}
 use Rattle.sei_main.specs.Events.{Event, Entered, entries_of}
 use Rattle.sei_main.specs.History.{Entry}

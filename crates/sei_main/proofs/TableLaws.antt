@@ -14,7 +14,7 @@ use Rattle.sei_words.specs.Words.{BucketWords, fresh_words}
 use Rattle.sei_words.proofs.FreshLaws.{fresh_stands}
 use Rattle.sei_hand.specs.ReadCall.{IsReadCall, HasBytes}
 use Rattle.sei_hand.specs.Served.{Stands}
-use Rattle.sei_main.specs.Tables.{Tables, IsOfGeometry, fresh_tables, bucket_words, IsBucketOf, AreServer}
+use Rattle.sei_main.specs.Tables.{Tables, IsOfGeometry, fresh_tables, bucket_words, IsBucketOf, AreServer, AreServerOf}
 
 -- a call that is asked in bytes
 pub record IsGood (g : Geometry) (p : Placed) : Type 0 where
@@ -36,11 +36,6 @@ next_each g t s p w x is within h new b lt = elim (cases_eq b p.bucket) [
       subst (IsBucketOf g (record s { buckets = slice_set s.buckets p.bucket x }) b) (sym same)
       (record { bucket = old.bucket; geometry = old.geometry ∙ is; stands = subst (Stands g (bucket_words t b).words) (sym still) (subst (λ (y : Geometry). Stands y (bucket_words t b).words (bucket_at s b)) is old.stands) })
 ]
-
--- tables of a geometry that stand for a server
-pub record AreServerOf (g : Geometry) (t : Tables) (s : Server) : Type 0 where
-  pub geometry : t.geometry ≡ g
-  pub are : AreServer t s
 
 -- fresh buckets are laid out as their geometry says
 pub fresh_laid_out : (g : Geometry) → All (IsOfGeometry g) (fresh_tables g).buckets

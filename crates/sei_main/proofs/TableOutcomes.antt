@@ -14,9 +14,9 @@ use Rattle.sei_main.specs.Course.{course_of}
 use Rattle.sei_main.specs.TableAnswers.{sealed_for, table_answering}
 use Rattle.sei_main.specs.Tables.{Tables, AreServer}
 use Rattle.sei_main.proofs.CourseLaws.{ended, finishes_right, enters_right, sends_right, aborts_struck, refuses_struck, struck_planned}
-use Rattle.sei_main.proofs.Outcomes.{Outcome, IsAsThere, IsHarmless, IsStruck, reply, entry}
-use Rattle.sei_main.proofs.Outcomes.Outcome.{AsThere, TurnedAway, Stopped}
-use Rattle.sei_main.proofs.TableLaws.{AreServerOf}
+use Rattle.sei_main.specs.Outcomes.{Outcome, IsAsThere, IsHarmless, IsStruck, reply, entry}
+use Rattle.sei_main.specs.Outcomes.Outcome.{AsThere, TurnedAway, Stopped}
+use Rattle.sei_main.specs.Tables.{AreServerOf}
 
 -- what became of a call, by its parts
 served_is : (s : Served) (entered : Option Entered) (message : List ℕ) (state : State) → s.entered ≡ entered → s.message ≡ message → s.state ≡ state → s ≡ record { entered = entered; message = message; state = state }

@@ -16,9 +16,11 @@ use Rattle.sei_main.specs.Run.{run_of, struck_run_of}
 use Rattle.sei_main.specs.Tables.{Tables, fresh_tables}
 use Rattle.sei_main.specs.TableAnswers.{table_answering}
 use Rattle.sei_main.proofs.SeatBytes.{next_text}
-use Rattle.sei_main.proofs.Outcomes.{IsAskedOf, AsksCalls, IsolatesFaults, Outcome}
+use Rattle.sei_main.specs.Outcomes.{IsAskedOf, IsolatesFaults, Outcome}
+use Rattle.sei_main.proofs.Outcomes.{AsksCalls}
 use Rattle.sei_main.proofs.Simulated.{run_same, report_same}
-use Rattle.sei_main.proofs.TableLaws.{AreServerOf, fresh_are_server}
+use Rattle.sei_main.specs.Tables.{AreServerOf}
+use Rattle.sei_main.proofs.TableLaws.{fresh_are_server}
 use Rattle.sei_main.proofs.TableCalls.{asked_of}
 use Rattle.sei_main.proofs.TableOutcomes.{outcome}
 

@@ -1,6 +1,15 @@
 -- How traversals of a run may end otherwise than well.
-use Rattle.std.specs.Prelude.{◌≡◌, ◌<◌, List, [], ◌∷◌, ⊤}
+use Rattle.std.specs.Prelude.{◌≡◌, ◌<◌, List, [], ◌∷◌, ⊤, Bool, true, false}
 use Rattle.sei_main.specs.Events.{Event, Entered, Sent, Closed, Refused, Aborted}
+
+-- whether a traversal was aborted
+abbrev pub has_abort : List Event → Bool
+has_abort [] = false
+has_abort (Entered entry ∷ later) = has_abort later
+has_abort (Sent c bytes ∷ later) = has_abort later
+has_abort (Closed c ∷ later) = has_abort later
+has_abort (Refused c strikes ∷ later) = has_abort later
+has_abort (Aborted c t abort strikes ∷ later) = true
 
 -- an abort is the last event
 abbrev pub NothingAfterAbort : List Event → Type 0

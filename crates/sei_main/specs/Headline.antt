@@ -10,7 +10,7 @@ use Rattle.mc_text.specs.declared.limits.Limits.{Limits}
 use Rattle.sei_main.specs.History.{Entry, IsLegal}
 use Rattle.sei_main.specs.Own.{own_entries, calls_in, messages_of, accepted_of, IsNumbered}
 use Rattle.sei_main.specs.Events.{entries_of, sent_to}
-use Rattle.sei_main.specs.Ends.{NothingAfterAbort, IsOfStruck}
+use Rattle.sei_main.specs.Ends.{has_abort, NothingAfterAbort, IsOfStruck}
 use Rattle.sei_main.specs.Seats.{waiting}
 use Rattle.sei_main.specs.State.{limits_of, seat_at}
 use Rattle.sei_main.specs.Run.{run_of, struck_run_of}
@@ -55,9 +55,10 @@ pub record SendsReplies (script : List ScriptLine) (c : ℕ) : Type 0 where
 abbrev pub SendsRepliesRun : List ScriptLine → Type 0
 SendsRepliesRun script = (c : ℕ) → SendsReplies script c
 
--- no event stands behind an abort
-abbrev pub NothingAfterAbortRun : List ScriptLine → Type 0
-NothingAfterAbortRun script = NothingAfterAbort (struck_run_of script).events
+-- the run has an abort exactly where an event is one, and no event stands behind it
+pub record NothingAfterAbortRun (script : List ScriptLine) : Type 0 where
+  pub told : (struck_run_of script).state.aborted ≡ has_abort (struck_run_of script).events
+  pub last : NothingAfterAbort (struck_run_of script).events
 
 -- only what was struck is refused or aborted
 abbrev pub OnlyStruckAbortsRun : List ScriptLine → Type 0

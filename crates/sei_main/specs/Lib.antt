@@ -14,6 +14,7 @@ pub mod Course
 pub mod Turning
 pub mod TableAnswers
 pub mod Asked
+pub mod Outcomes
 pub mod Becomes
 pub mod Run
 pub mod Report

@@ -4,8 +4,8 @@ use Rattle.std.specs.Prelude.{ℕ, ◌+◌, ◌-◌, ◌^◌, min, Bool, true, f
 pub record Seat : Type 0 where
   pub fed : List ℕ  -- all bytes that were fed
   pub consumed : ℕ  -- how many of them requests took
-  pub requests : ℕ  -- how many of its requests were answered
-  pub entered : ℕ  -- how many of its calls were answered
+  pub requests : ℕ  -- how many of its requests were taken
+  pub entered : ℕ  -- how many calls those had
   pub sent : ℕ  -- how many messages were sent to it
   pub closed : Bool  -- by `quit` or a closing request, or since a call was refused or aborted
 

@@ -33,6 +33,11 @@ pub record AreServer (t : Tables) (s : Server) : Type 0 where
   pub buckets : length s.buckets ≡ t.geometry.buckets
   pub each : (b : ℕ) → b < t.geometry.buckets → IsBucketOf t.geometry s b (bucket_words t b)
 
+-- and so those of a geometry
+pub record AreServerOf (g : Geometry) (t : Tables) (s : Server) : Type 0 where
+  pub geometry : t.geometry ≡ g
+  pub are : AreServer t s
+
 -- the words of a bucket are of this geometry
 abbrev pub IsOfGeometry : Geometry → BucketWords → Type 0
 IsOfGeometry g w = w.geometry ≡ g

@@ -1,6 +1,7 @@
 //! Replays a script of connections from standard input, and writes what happens to standard output.
 #![tactic(auto)]
 
+mod isolation;
 mod plans;
 mod replay;
 mod report;

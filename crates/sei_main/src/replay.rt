@@ -146,7 +146,7 @@ pub fn replay<S: Source, K: Sink>(
     sink: &mut K,
     history: bool,
 ) -> Status
-    // What each answer means, and what was written then: on Ok exactly the report of the script's run.
+    // What each answer means, and what was written then: on Ok and Aborted exactly the report of the script's run with its planned faults.
     ensures answer { IfSome (S.left source.old) (λ input. Answered history (reading_in input) (K.written sink.old) (K.written sink.new) result) }
     ensures status { IsReplayStatus result }
     ensures read_to_end { result ≡ Status.Ok → IsAtEnd (S.left source.new) }
@@ -155,17 +155,17 @@ pub fn replay<S: Source, K: Sink>(
     ensures write_fault { result ≡ Status.WriteFault → Rose (K.faults sink.old) (K.faults sink.new) }
     ensures read_later { S.faults source.old ≤ S.faults source.new }
     ensures write_later { K.faults sink.old ≤ K.faults sink.new }
-    // Where no fault comes, the script alone decides between Ok and its first bad line, want of memory aside.
+    // Where no fault comes, the script alone decides between Ok, Aborted and its first bad line, want of memory aside.
     ensures complete { ¬ Rose (S.faults source.old) (S.faults source.new) → ¬ Rose (K.faults sink.old) (K.faults sink.new)
         → IfSome (S.left source.old) (λ input. IsDecided (reading_in input) result) }
 
     // Whatever faults are planned: the entries of a run are one legal history of a memcached of one thread,
     ensures legal { HasRun result → OnInput (S.left source.old) IsLegalRun }
-    // numbered in order for each connection, and asked as its own calls are;
+    // numbered in order for each connection, and their calls are the first of its own;
     ensures numbered { HasRun result → OnInput (S.left source.old) IsNumberedRun }
     // each connection is sent the messages of its first entries;
     ensures sent { HasRun result → OnInput (S.left source.old) SendsRepliesRun }
-    // nothing happens behind an abort;
+    // the run has an abort exactly where an event tells one, and nothing happens behind it;
     ensures nothing_after_abort { HasRun result → OnInput (S.left source.old) NothingAfterAbortRun }
     // and a traversal aborts, or a connection is refused, only where a strike fell in that traversal.
     ensures only_struck_aborts { HasRun result → OnInput (S.left source.old) OnlyStruckAbortsRun }
