@@ -174,6 +174,7 @@ impl Core for ScriptCore {
 
     ghost gives = { function_core script_answer script_next };
 
+    #[inline]
     fn value(&mut self, honest: u64) -> u64 {
         self.count();
         let fault = self.read_fault(honest);
@@ -182,6 +183,7 @@ impl Core for ScriptCore {
         fault.unwrap_or(honest)
     }
 
+    #[inline]
     fn written(&mut self, honest: u64) -> u64 {
         self.count();
         let fault = self.written_fault(honest);
@@ -189,6 +191,7 @@ impl Core for ScriptCore {
         fault.unwrap_or(honest)
     }
 
+    #[inline]
     fn test(&mut self, honest: bool) -> bool {
         self.count();
         let fault = self.test_fault(honest);
@@ -196,6 +199,7 @@ impl Core for ScriptCore {
         fault.unwrap_or(honest)
     }
 
+    #[inline]
     fn times(&mut self, site: Site) -> Times {
         self.count();
         self.begin_step(site);
@@ -204,6 +208,7 @@ impl Core for ScriptCore {
         fault.unwrap_or(Times::Once)
     }
 
+    #[inline]
     fn next(&mut self, honest: Place) -> Place {
         self.count();
         let fault = self.next_fault(honest);

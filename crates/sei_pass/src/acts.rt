@@ -9,6 +9,7 @@ use sei_stmt::Stmt;
 
 impl Frame {
     /// The act of the statement. An address is what its register holds.
+    #[inline(always)]
     pub fn act(&self, statement: Stmt) -> Act
         requires { HasRegisters statement }
         ensures { result ≡ act_of self.now.registers statement }

@@ -15,6 +15,7 @@ use sei_words::Lent;
 
 impl Frame {
     /// The register gets a word of the bucket.
+    #[inline(always)]
     pub fn load<L: Lent, K: Core>(
         &mut self,
         to: u8,
@@ -43,6 +44,7 @@ impl Frame {
 
     /// The word of the bucket becomes what the register holds, and the change is logged. A store
     /// that changes nothing is not made.
+    #[inline(always)]
     pub fn store<L: Lent, K: Core>(
         &mut self,
         address: u8,

@@ -63,6 +63,7 @@ fn read_words<K: Core>(words: &WordList, into: &mut WordList, core: &mut K)
 
 impl Frame {
     /// What the register holds is one more output word.
+    #[inline(always)]
     pub fn emit<K: Core>(&mut self, from: u8, index: u64, core: &mut K) -> PassStep
         requires from { from < 32 }
         requires index { index + 1 < 2 ^ 64 }

@@ -98,6 +98,7 @@ impl Pass {
     }
 
     /// What the statement at `index` of the table does, or `None` where there is no such statement.
+    #[inline(always)]
     pub fn act<H: Handler>(&self, hands: &H, index: u64) -> Option<Act>
         ensures act { result ≡ option_map (act_of self.now.registers) (slice_get (H.statements hands.now) index) }
         ensures below { IfSome result (λ _. index < 2 ^ 63) }
@@ -160,6 +161,7 @@ impl Pass {
     }
 
     /// The same step, on what is lent.
+    #[inline(always)]
     pub fn step_on<H: Handler, L: Slots, K: Core, C: Clock>(
         &mut self,
         which: Which,

@@ -9,6 +9,7 @@ use sei_fault::{AbortCause, Core};
 
 impl Frame {
     /// The register gets the number.
+    #[inline(always)]
     pub fn constant<K: Core>(&mut self, to: u8, number: u64, index: u64, core: &mut K) -> PassStep
         requires to { to < 32 }
         requires index { index + 1 < 2 ^ 64 }
@@ -19,6 +20,7 @@ impl Frame {
     }
 
     /// The register gets what the other one holds.
+    #[inline(always)]
     pub fn copy<K: Core>(&mut self, to: u8, from: u8, index: u64, core: &mut K) -> PassStep
         requires to { to < 32 }
         requires from { from < 32 }
@@ -31,6 +33,7 @@ impl Frame {
     }
 
     /// The register gets the sum.
+    #[inline(always)]
     pub fn add<K: Core>(
         &mut self,
         to: u8,
@@ -52,6 +55,7 @@ impl Frame {
     }
 
     /// The register gets the difference.
+    #[inline(always)]
     pub fn sub<K: Core>(
         &mut self,
         to: u8,
@@ -73,6 +77,7 @@ impl Frame {
     }
 
     /// The register gets an input word.
+    #[inline(always)]
     pub fn input<K: Core>(&mut self, to: u8, from: u8, index: u64, core: &mut K) -> PassStep
         requires to { to < 32 }
         requires from { from < 32 }
@@ -91,6 +96,7 @@ impl Frame {
     }
 
     /// Goes on at `to` where both registers hold the same.
+    #[inline(always)]
     pub fn jump_equal<K: Core>(
         &mut self,
         left: u8,
@@ -114,6 +120,7 @@ impl Frame {
     }
 
     /// Goes on at `to` where the left register holds less.
+    #[inline(always)]
     pub fn jump_less<K: Core>(
         &mut self,
         left: u8,

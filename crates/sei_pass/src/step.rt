@@ -45,6 +45,7 @@ fn budget(g: &Geometry) -> u64
 
 impl Frame {
     /// Makes the statement at `index`, where there is one and the budget is not spent.
+    #[inline(always)]
     pub fn step<H: Handler, L: Slots, K: Core, C: Clock>(
         &mut self,
         which: Which,
@@ -97,6 +98,7 @@ impl Frame {
     }
 
     /// Makes one statement.
+    #[inline(always)]
     fn make<H: Handler, L: Slots, K: Core>(
         &mut self,
         statement: Stmt,
