@@ -1,5 +1,5 @@
 //! The act at a place, whichever its phase is.
-ghost use Rattle.std.specs.Prelude.{◌≡◌, ℕ, ◌+◌, ◌<◌, ◌≤◌, ◌^◌, length};
+ghost use Rattle.std.specs.Prelude.{◌≡◌, ◌+◌, ◌<◌, ◌≤◌, ◌^◌, length};
 ghost use Rattle.sei_stmt.specs.Handling.{parsed_words};
 ghost use Rattle.sei_words.specs.Loan.{words_of, bucket_of, place_of, IsOf};
 ghost use Rattle.sei_pass.specs.Setting.{sealed_call};
@@ -18,6 +18,7 @@ use sei_stmt::Handler;
 
 impl Walk {
     /// Does what is to be done at this place.
+    #[inline(never)]
     pub fn act<H: Handler, L: Slots, K: Core, C: Clock>(
         &mut self,
         hands: &H,

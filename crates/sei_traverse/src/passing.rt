@@ -1,6 +1,5 @@
 //! The acts of the two passes.
-ghost use Rattle.std.specs.Prelude.{◌≡◌, ℕ, ◌≤◌, List, length};
-ghost use Rattle.sei_fault.specs.Tree.{Runs};
+ghost use Rattle.std.specs.Prelude.{◌≡◌, ◌≤◌, length};
 ghost use Rattle.sei_stmt.specs.Handling.{parsed_words};
 ghost use Rattle.sei_words.specs.Loan.{words_of, bucket_of, place_of, IsOf};
 ghost use Rattle.sei_pass.specs.Setting.{sealed_call};
@@ -19,6 +18,7 @@ use sei_stmt::Handler;
 
 impl Walk {
     /// A statement of the first pass.
+    #[inline(always)]
     pub fn first<H: Handler, L: Slots, K: Core, C: Clock>(
         &mut self,
         hands: &H,
@@ -67,6 +67,7 @@ impl Walk {
     }
 
     /// A statement of the second pass.
+    #[inline(always)]
     pub fn second<H: Handler, L: Slots, K: Core, C: Clock>(
         &mut self,
         hands: &H,

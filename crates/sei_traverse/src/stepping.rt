@@ -5,8 +5,6 @@ ghost use Rattle.sei_stmt.specs.Handling.{parsed_words};
 ghost use Rattle.sei_words.specs.Loan.{words_of, bucket_of, place_of, IsOf};
 ghost use Rattle.sei_pass.specs.Setting.{sealed_call};
 ghost use Rattle.sei_pass.specs.State.{input_room};
-ghost use Rattle.sei_traverse.specs.Acts.{acted};
-ghost use Rattle.sei_traverse.specs.PassActs.{first_tree};
 ghost use Rattle.sei_traverse.specs.Service.{service_of, given_of};
 ghost use Rattle.sei_traverse.specs.Step.{site_of, next_phase, is_halt, is_last, skipped, turn, arrival, is_end, plain_below, goes, goes_from, once, act_tree, twice, turn_at, turn_tree, Timed, TimedTwice};
 ghost use Rattle.sei_traverse.specs.Walks.{IsWalk, Stays};
@@ -86,6 +84,7 @@ fn plain_below(steps: u64, index: u64) -> Option<Act>
 
 impl Walk {
     /// What the step at this place is told as, or `None` where the place is no step of its phase.
+    #[inline(always)]
     fn site<H: Handler>(&self, hands: &H) -> Option<Act>
         requires { IsWalk self.now }
         ensures act { (calls : _) (parsed : _) (rendered : _) → result ≡ site_of (service_of (H.statements hands.now) calls parsed rendered) self.now }
@@ -143,6 +142,7 @@ impl Walk {
     }
 
     /// Asks where to go on, and goes there.
+    #[inline(always)]
     fn go<K: Core>(&mut self, to: Place, core: &mut K) -> State
         ensures gone { (words : List ℕ) → Runs K.gives (goes self.old words to) core.old core.new (turn self.new words result) }
         ensures stays { Stays self.old self.new }
@@ -153,6 +153,7 @@ impl Walk {
     }
 
     /// Goes on behind an act, unless that ended the traversal.
+    #[inline(always)]
     fn go_on<K: Core>(&mut self, ending: Ending, core: &mut K) -> State
         ensures gone { (words : List ℕ) → Runs K.gives (goes_from self.old words ending) core.old core.new (turn self.new words result) }
         ensures stays { Stays self.old self.new }
@@ -168,6 +169,7 @@ impl Walk {
     }
 
     /// Does the act of the step, and goes on.
+    #[inline(always)]
     fn once<H: Handler, L: Slots, K: Core, C: Clock>(
         &mut self,
         hands: &H,
@@ -193,6 +195,7 @@ impl Walk {
     }
 
     /// Does the act of the step two times, unless the first one ended the traversal.
+    #[inline(never)]
     fn twice<H: Handler, L: Slots, K: Core, C: Clock>(
         &mut self,
         hands: &H,
@@ -224,6 +227,7 @@ impl Walk {
     }
 
     /// Asks how often the act of the step is to be done, does it, and goes on.
+    #[inline(always)]
     fn turn<H: Handler, L: Slots, K: Core, C: Clock>(
         &mut self,
         act: Act,
@@ -260,6 +264,7 @@ impl Walk {
     }
 
     /// Makes the step at this place.
+    #[inline(always)]
     pub fn step<H: Handler, L: Slots, K: Core, C: Clock>(
         &mut self,
         hands: &H,

@@ -1,15 +1,27 @@
 //! What the acts of a traversal work on.
-ghost use Rattle.std.specs.Prelude.{◌≡◌, ℕ, List};
+ghost use Rattle.std.specs.Prelude.{◌≡◌, ℕ, List, IfOk};
+ghost use Rattle.mc_model.specs.Server.{IsValid};
+ghost use Rattle.sei_code.specs.Kept.{empty_kept};
 ghost use Rattle.sei_fault.specs.Tree.{Runs};
-ghost use Rattle.sei_traverse.specs.Walks.{Stays};
+ghost use Rattle.sei_log.specs.declared.log.Change.{Change};
+ghost use Rattle.sei_pass.specs.State.{bytes_room, new_pass};
+ghost use Rattle.sei_traverse.specs.Walks.{log_room, IsWalk, Stays};
 ghost use Rattle.sei_traverse.specs.Acts.{acted, closes};
 
 use crate::turned::Want;
-use sei_code::Buffer;
+use mc_model::Geometry;
+use sei_code::{Buffer, Coded, Memory};
 use sei_fault::{AbortCause, Core, Phase, Place};
 use sei_gate::Gate;
 use sei_log::{Notes, WriteLog};
 use sei_pass::{Pass, Sealed};
+use std::alloc::Global;
+
+/// The notes of a traversal that has asked for nothing yet.
+pub const NO_NOTES: Notes = Notes {
+    now: None,
+    slot: None,
+};
 
 /// How an act ends.
 #[derive(Clone, Copy, Debug, PartialEq, Eq)]
@@ -41,7 +53,75 @@ pub struct Walk {
     pub wire: Buffer,
 }
 
+/// How many changes a pass may log.
+fn log_room(g: &Geometry) -> usize
+    requires { IsValid g.now }
+    ensures { result ≡ log_room g.now }
+{
+    (48 + g.slots + g.value_words) as usize
+}
+
+/// How many bytes the copy for the wire may have.
+fn wire_room(g: &Geometry) -> usize
+    requires { IsValid g.now }
+    ensures { result ≡ bytes_room g.now }
+{
+    (8 * g.value_words + 320) as usize
+}
+
+/// The logs of both passes, with nothing in them.
+fn logs(alloc: Global, g: &Geometry) -> Result<(WriteLog, WriteLog), Memory>
+    requires { IsValid g.now }
+    ensures { IfOk result (λ logs. (logs.0 ≡ empty_kept Change (log_room g.now)) × (logs.1 ≡ empty_kept Change (log_room g.now))) }
+{
+    let first = WriteLog::new(alloc, log_room(g))?;
+    let second = WriteLog::new(alloc, log_room(g))?;
+    Ok((first, second))
+}
+
+/// Both passes, before their first statements.
+fn passes(alloc: Global, g: &Geometry) -> Result<(Pass, Pass), Memory>
+    requires { IsValid g.now }
+    ensures { IfOk result (λ passes. (passes.0 ≡ new_pass g.now) × (passes.1 ≡ new_pass g.now)) }
+{
+    let first = Pass::new(alloc, g)?;
+    let second = Pass::new(alloc, g)?;
+    Ok((first, second))
+}
+
 impl Walk {
+    /// Of a call that is not sealed yet, with the room that each call of this geometry needs.
+    pub fn new(alloc: Global, g: &Geometry) -> Result<Walk, Memory>
+        requires { IsValid g.now }
+        ensures walk { IfOk result IsWalk }
+        ensures geometry { IfOk result (λ walk. walk.first.geometry ≡ g.now) }
+    {
+        let (first_log, second_log) = logs(alloc, g)?;
+        let wire = Buffer::new(alloc, wire_room(g))?;
+        let (first, second) = passes(alloc, g)?;
+        Ok(Walk {
+            sealed: Sealed {
+                number: 0,
+                nth: Coded::seal(0),
+                code: 0,
+                answer: 0,
+            },
+            place: Place {
+                phase: Phase::Guard,
+                index: 0,
+            },
+            gate: Gate::new(),
+            wanted: 0,
+            want: Want::Nothing,
+            first,
+            second,
+            first_log,
+            second_log,
+            notes: NO_NOTES,
+            wire,
+        })
+    }
+
     /// Closes the phase, and leads to `to` with this want.
     pub fn close<K: Core>(&mut self, phase: Phase, want: Want, to: Place, core: &mut K) -> Ending
         ensures act { (words : List ℕ) → Runs K.gives (closes phase self.old words want to) core.old core.new (acted self.new words result) }
