@@ -14,23 +14,23 @@ use Rattle.mc_model.specs.Bucket.{Item, Entries, Bucket, lookup, put, without, p
 use Rattle.mc_model.specs.Call.{Call}
 use Rattle.mc_model.specs.Items.{expiry_of, item_of_call, item_with_value, item_with_expiry}
 use Rattle.mc_model.specs.Outcome.{Outcome, outcome_of, adding, comparing, joining, counting}
-use Rattle.sei_hand.specs.Bounded.{IsNumbered, IsBounded}
+use Rattle.sei_hand.specs.Bounded.{HasNumbersOf64, IsBounded}
 
 -- the numbers of an entry's item
 abbrev HasNumbers : List ℕ × Item → Type 0
-HasNumbers e = IsNumbered e.1
+HasNumbers e = HasNumbersOf64 e.1
 
 -- The entries behind each change.
 
-numbered_lookup : (key : List ℕ) (es : Entries) → All HasNumbers es → IfSome (lookup key es) IsNumbered
+numbered_lookup : (key : List ℕ) (es : Entries) → All HasNumbers es → IfSome (lookup key es) HasNumbersOf64
 numbered_lookup key [] h = tt
 numbered_lookup key (e ∷ es) h = by_test (bytes_eq key e.0) (numbered_lookup key es (All-tail HasNumbers e es h))
   where
-    by_test : (t : Bool) → IfSome (lookup key es) IsNumbered → IfSome (cond t (Some e.1) (lookup key es)) IsNumbered
+    by_test : (t : Bool) → IfSome (lookup key es) HasNumbersOf64 → IfSome (cond t (Some e.1) (lookup key es)) HasNumbersOf64
     by_test true more = All-head HasNumbers e es h
     by_test false more = more
 
-numbered_put : (key : List ℕ) (x : Item) (es : Entries) → IsNumbered x → All HasNumbers es → All HasNumbers (put key x es)
+numbered_put : (key : List ℕ) (x : Item) (es : Entries) → HasNumbersOf64 x → All HasNumbers es → All HasNumbers (put key x es)
 numbered_put key x [] p h = All-cons HasNumbers (key, x) [] p h
 numbered_put key x (e ∷ es) p h = by_test (bytes_eq key e.0) (numbered_put key x es p (All-tail HasNumbers e es h))
   where
@@ -47,12 +47,12 @@ numbered_without key (e ∷ es) h = by_test (bytes_eq key e.0) (numbered_without
     by_test false more = All-cons HasNumbers e (without key es) (All-head HasNumbers e es h) more
 
 -- the item at a key
-pub item_numbered : (b : Bucket) (key : List ℕ) (x : Item) → IsBounded b → lookup key b.items ≡ Some x → IsNumbered x
+pub item_numbered : (b : Bucket) (key : List ℕ) (x : Item) → IsBounded b → lookup key b.items ≡ Some x → HasNumbersOf64 x
 item_numbered b key x h is = subst_some (lookup key b.items) is (numbered_lookup key b.items h.items)
   where
-    subst_some : (o : Option Item) → o ≡ Some x → IfSome o IsNumbered → IsNumbered x
+    subst_some : (o : Option Item) → o ≡ Some x → IfSome o HasNumbersOf64 → HasNumbersOf64 x
     subst_some None e p = absurd (cc)
-    subst_some (Some y) e p = let same : y ≡ x = cc in subst IsNumbered same p
+    subst_some (Some y) e p = let same : y ≡ x = cc in subst HasNumbersOf64 same p
 
 -- The items that calls make.
 
@@ -65,22 +65,22 @@ expiry_small m n x lt = by_test (x == 0) n (nat_le x 2592000)
     by_test false false true = omega arith
     by_test false false false = omega (arith, lt)
 
-call_numbered : (s : Seen) (c : Call) → c.flags < 2 ^ 64 → c.exptime < 2 ^ 64 → IsNumbered (item_of_call s c)
+call_numbered : (s : Seen) (c : Call) → c.flags < 2 ^ 64 → c.exptime < 2 ^ 64 → HasNumbersOf64 (item_of_call s c)
 call_numbered s c f x = record { flags = f; expiry = expiry_small s.moment c.negative c.exptime x; unique = omega arith }
 
-value_numbered : (s : Seen) (x : Item) (value : List ℕ) → IsNumbered x → IsNumbered (item_with_value s x value)
+value_numbered : (s : Seen) (x : Item) (value : List ℕ) → HasNumbersOf64 x → HasNumbersOf64 (item_with_value s x value)
 value_numbered s x value h = record { flags = h.flags; expiry = h.expiry; unique = omega arith }
 
-expiry_numbered : (s : Seen) (c : Call) (x : Item) → c.exptime < 2 ^ 64 → IsNumbered x → IsNumbered (item_with_expiry s c x)
+expiry_numbered : (s : Seen) (c : Call) (x : Item) → c.exptime < 2 ^ 64 → HasNumbersOf64 x → HasNumbersOf64 (item_with_expiry s c x)
 expiry_numbered s c x e h = record { flags = h.flags; expiry = expiry_small s.moment c.negative c.exptime e; unique = h.unique }
 
 -- The changes.
 
 abbrev Suits : Change → Type 0
 Suits Keep = Unit {0}
-Suits (Put x) = IsNumbered x
-Suits (Draw x) = IsNumbered x
-Suits (Make x) = IsNumbered x
+Suits (Put x) = HasNumbersOf64 x
+Suits (Draw x) = HasNumbersOf64 x
+Suits (Make x) = HasNumbersOf64 x
 Suits Remove = Unit {0}
 Suits Clear = Unit {0}
 
@@ -88,12 +88,12 @@ choice_suits : (t : Bool) (p q : Outcome) → Suits p.change → Suits q.change 
 choice_suits true p q f g = f
 choice_suits false p q f g = g
 
-counting_suits : (s : Seen) (x : Item) (o : Option ℕ) → IsNumbered x → Suits (counting s x o).change
+counting_suits : (s : Seen) (x : Item) (o : Option ℕ) → HasNumbersOf64 x → Suits (counting s x o).change
 counting_suits s x None h = tt
 counting_suits s x (Some n) h = value_numbered s x _ h
 
 module _ (s : Seen) (c : Call) (flags : c.flags < 2 ^ 64) (exptime : c.exptime < 2 ^ 64) where
-  stored : IsNumbered (item_of_call s c)
+  stored : HasNumbersOf64 (item_of_call s c)
   stored = call_numbered s c flags exptime
 
   adding_suits : Suits (adding s c).change
@@ -102,13 +102,13 @@ module _ (s : Seen) (c : Call) (flags : c.flags < 2 ^ 64) (exptime : c.exptime <
   comparing_suits : (x : Item) → Suits (comparing s c x).change
   comparing_suits x = choice_suits (x.unique == c.unique) _ _ stored tt
 
-  joining_suits : (x : Item) (value : List ℕ) → IsNumbered x → Suits (joining s x value).change
+  joining_suits : (x : Item) (value : List ℕ) → HasNumbersOf64 x → Suits (joining s x value).change
   joining_suits x value h = choice_suits (nat_le (length value) s.room.value_bytes) _ _ (value_numbered s x value h) tt
 
-  touched : (x : Item) → IsNumbered x → IsNumbered (item_with_expiry s c x)
+  touched : (x : Item) → HasNumbersOf64 x → HasNumbersOf64 (item_with_expiry s c x)
   touched x h = expiry_numbered s c x exptime h
 
-  outcome_suits : (v : Verb) (o : Option Item) → IfSome o IsNumbered → Suits (outcome_of s c v o).change
+  outcome_suits : (v : Verb) (o : Option Item) → IfSome o HasNumbersOf64 → Suits (outcome_of s c v o).change
   outcome_suits Set None h = adding_suits
   outcome_suits Set (Some x) h = stored
   outcome_suits Add None h = adding_suits

@@ -6,7 +6,7 @@ use Rattle.mc_model.specs.declared.geometry.Geometry.{Geometry}
 use Rattle.mc_model.specs.declared.call.Verb.TheVariants.{Set, Get, Fixed}
 use Rattle.mc_model.specs.Packed.{AreBytes}
 
-pub record IsNumbered (x : Item) : Type 0 where
+pub record HasNumbersOf64 (x : Item) : Type 0 where
   pub flags : x.flags < 2 ^ 64
   pub expiry : x.expiry < 2 ^ 64
   pub unique : x.unique < 2 ^ 64
@@ -14,7 +14,7 @@ pub record IsNumbered (x : Item) : Type 0 where
 pub record IsBounded (b : Bucket) : Type 0 where
   pub moment : b.moment < 2 ^ 64
   pub counter : b.counter < 2 ^ 64
-  pub items : All (λ e. IsNumbered e.1) b.items
+  pub items : All (λ e. HasNumbersOf64 e.1) b.items
 
 -- the commands that requests can ask for so far
 pub data IsBuilt (c : Call) : Type 0 where

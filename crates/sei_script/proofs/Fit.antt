@@ -10,11 +10,11 @@ use Rattle.sei_fault.specs.declared.plan.Planned.{Planned}
 use Rattle.sei_script.specs.Context.{empty_context, context_after, context_from, context_of, geometry_of}
 use Rattle.sei_script.specs.Escapes.{unescaped}
 use Rattle.sei_script.specs.Faults.{is_planned, is_second, once_by, once}
-use Rattle.sei_script.specs.Fit.{IsFit, AreFit}
+use Rattle.sei_script.specs.Fit.{IsWellPlaced, AreFit}
 use Rattle.sei_script.specs.Hexadecimal.{unhexed}
 use Rattle.sei_script.specs.Lines.{word_of, behind_word, first_number, first_exact, last_exact, lines_in}
 use Rattle.sei_script.specs.Plans.{plan_of}
-use Rattle.sei_script.specs.Reading.{Reading, Reads, Fails, whole, goes_on, ends_at, reading_from, reading_of, Answers}
+use Rattle.sei_script.specs.Reading.{Reading, Reads, Fails, whole, goes_on, ends_at, reading_from, reading_of, ReadsAs}
 use Rattle.sei_script.specs.Says.{with_part, at_end, is_in_limits, geometry_numbers, geometry_words, geometry_says, behind_geometry, line_says, open_says, say_says, hex_says, clock_says, fault_says, other_says, kind_says, is_skipped}
 use Rattle.sei_script.specs.Limits.{most_connections}
 use Rattle.sei_script.specs.declared.line.Context.{Context}
@@ -29,7 +29,7 @@ use Rattle.sei_script.proofs.Limits.{valid_in_limits}
 -- the line that is said, where one is, is fit
 abbrev pub Fit : Context → Said → Type 0
 Fit x Nothing = ⊤
-Fit x (Line line) = IsFit x line
+Fit x (Line line) = IsWellPlaced x line
 Fit x (Wrong why) = ⊤
 
 either : (x : Context) (t : Bool) (a b : Said) → Fit x a → Fit x b → Fit x (if t then a else b)
@@ -135,12 +135,12 @@ pub context_more : (x : Context) (script : List ScriptLine) (line : ScriptLine) 
 context_more x [] line = refl
 context_more x (first ∷ script) line = context_more (context_after x first) script line
 
-pub fit_more : (x : Context) (script : List ScriptLine) (line : ScriptLine) → AreFit x script → IsFit (context_from x script) line → AreFit x (script ++ line ∷ [])
+pub fit_more : (x : Context) (script : List ScriptLine) (line : ScriptLine) → AreFit x script → IsWellPlaced (context_from x script) line → AreFit x (script ++ line ∷ [])
 fit_more x [] line h f = (f, tt)
 fit_more x (first ∷ script) line h f = (h.0, fit_more (context_after x first) script line h.1 f)
 
 -- no more connections are opened than there may be
-pub few_more : (x : Context) (line : ScriptLine) → x.opens ≤ most_connections → IsFit x line → (context_after x line).opens ≤ most_connections
+pub few_more : (x : Context) (line : ScriptLine) → x.opens ≤ most_connections → IsWellPlaced x line → (context_after x line).opens ≤ most_connections
 few_more x (GeometryLine g) h f = h
 few_more x (Open c) h f = omega (arith, f.1, f.2)
 few_more x (Say c bytes) h f = h
@@ -150,7 +150,7 @@ few_more x (Clock now) h f = h
 few_more x (Fault c t plan) h f = h
 
 -- a geometry stays
-geometry_after : (x : Context) (line : ScriptLine) (g : Geometry) → x.geometry ≡ Some g → IsFit x line → (context_after x line).geometry ≡ Some g
+geometry_after : (x : Context) (line : ScriptLine) (g : Geometry) → x.geometry ≡ Some g → IsWellPlaced x line → (context_after x line).geometry ≡ Some g
 geometry_after x (GeometryLine h) g e f = absurd (none_and_some (f.0) e)
   where
     none_and_some : x.geometry ≡ None → x.geometry ≡ Some g → ⊥
@@ -226,10 +226,10 @@ pub reads_valid : (limit : ℕ) (bytes : List ℕ) (read : List ScriptLine) → 
 reads_valid limit bytes read e = (text_read bytes (nat_lt limit (length bytes)) read e).valid
 
 -- the same of what the reader answers
-pub answer_fit : (limit : ℕ) (bytes : List ℕ) (r : Result (List ScriptLine) ScriptFault) → Answers (reading_of limit bytes) r → IfOk r (λ script. AreFit empty_context script)
+pub answer_fit : (limit : ℕ) (bytes : List ℕ) (r : Result (List ScriptLine) ScriptFault) → ReadsAs (reading_of limit bytes) r → IfOk r (λ script. AreFit empty_context script)
 answer_fit limit bytes (Ok script) h = reads_fit limit bytes script h
 answer_fit limit bytes (Err fault) h = tt
 
-pub answer_valid : (limit : ℕ) (bytes : List ℕ) (r : Result (List ScriptLine) ScriptFault) → Answers (reading_of limit bytes) r → IfOk r (λ script. IsValid (geometry_of script))
+pub answer_valid : (limit : ℕ) (bytes : List ℕ) (r : Result (List ScriptLine) ScriptFault) → ReadsAs (reading_of limit bytes) r → IfOk r (λ script. IsValid (geometry_of script))
 answer_valid limit bytes (Ok script) h = reads_valid limit bytes script h
 answer_valid limit bytes (Err fault) h = tt

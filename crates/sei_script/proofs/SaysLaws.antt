@@ -16,7 +16,7 @@ use Rattle.sei_script.specs.Limits.{most_connections}
 use Rattle.sei_script.specs.Lines.{lines_in, onto_first_line, word_of, behind_word, Part, part, first_number, first_exact, last_exact}
 use Rattle.sei_script.specs.Numbers.{number_of, in_word}
 use Rattle.sei_script.specs.Plans.{plan_of}
-use Rattle.sei_script.specs.Reading.{Reading, Reads, Fails, Answers, whole, goes_on, ends_at, reading_from, reading_of}
+use Rattle.sei_script.specs.Reading.{Reading, Reads, Fails, ReadsAs, whole, goes_on, ends_at, reading_from, reading_of}
 use Rattle.sei_script.specs.Says.{with_part, at_end, is_in_limits, geometry_says, behind_geometry, open_says, say_says, hex_says, clock_says, fault_says, other_says, kind_says, is_skipped, line_says}
 use Rattle.sei_script.specs.SaysBytes.{SaysBytes}
 use Rattle.sei_script.specs.declared.escapes.Step.{Step}
@@ -274,6 +274,6 @@ pub reads_bytes : (limit : ℕ) (text : List ℕ) (script : List ScriptLine) →
 reads_bytes limit text script h e = text_bytes text (nat_lt limit (length text)) script h e
 
 -- the same of what the reader answers
-pub answer_bytes : (limit : ℕ) (bytes : List ℕ) (r : Result (List ScriptLine) ScriptFault) → ((i : ℕ) → slice_index bytes i < 256) → Answers (reading_of limit bytes) r → IfOk r (λ script. All SaysBytes script)
+pub answer_bytes : (limit : ℕ) (bytes : List ℕ) (r : Result (List ScriptLine) ScriptFault) → ((i : ℕ) → slice_index bytes i < 256) → ReadsAs (reading_of limit bytes) r → IfOk r (λ script. All SaysBytes script)
 answer_bytes limit bytes (Ok script) small h = reads_bytes limit bytes script (All-from_get_or (λ b. b < 256) bytes 0 (λ i lt. small i)) h
 answer_bytes limit bytes (Err fault) small h = tt

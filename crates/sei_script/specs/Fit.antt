@@ -8,16 +8,16 @@ use Rattle.sei_script.specs.declared.line.ScriptLine.{ScriptLine}
 use Rattle.sei_script.specs.declared.line.ScriptLine.TheVariants.{Geometry, Open, Say, Hex, Drain, Clock, Fault}
 
 -- the first line is a valid geometry and no other is one; a connection is opened in its turn, and is open where a line speaks of it
-abbrev pub IsFit : Context → ScriptLine → Type 0
-IsFit x (Geometry g) = (x.geometry ≡ None) × IsValid g
-IsFit x (Open c) = IsSome x.geometry × (c ≡ x.opens) × (c < most_connections)
-IsFit x (Say c bytes) = IsSome x.geometry × (c < x.opens)
-IsFit x (Hex c bytes) = IsSome x.geometry × (c < x.opens)
-IsFit x Drain = IsSome x.geometry
-IsFit x (Clock now) = IsSome x.geometry
-IsFit x (Fault c t plan) = IsSome x.geometry × (c < x.opens)
+abbrev pub IsWellPlaced : Context → ScriptLine → Type 0
+IsWellPlaced x (Geometry g) = (x.geometry ≡ None) × IsValid g
+IsWellPlaced x (Open c) = IsSome x.geometry × (c ≡ x.opens) × (c < most_connections)
+IsWellPlaced x (Say c bytes) = IsSome x.geometry × (c < x.opens)
+IsWellPlaced x (Hex c bytes) = IsSome x.geometry × (c < x.opens)
+IsWellPlaced x Drain = IsSome x.geometry
+IsWellPlaced x (Clock now) = IsSome x.geometry
+IsWellPlaced x (Fault c t plan) = IsSome x.geometry × (c < x.opens)
 
 -- each line is fit behind the lines before it
 abbrev pub AreFit : Context → List ScriptLine → Type 0
 AreFit x [] = ⊤
-AreFit x (line ∷ lines) = IsFit x line × AreFit (context_after x line) lines
+AreFit x (line ∷ lines) = IsWellPlaced x line × AreFit (context_after x line) lines

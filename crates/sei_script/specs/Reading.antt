@@ -49,7 +49,7 @@ reading_of limit bytes =
     else reading_from [] 1 (lines_in bytes).0 (lines_in bytes).1
 
 -- what the reader answers, want of memory aside
-abbrev pub Answers : Reading → Result (List ScriptLine) ScriptFault → Type 0
-Answers reading (Ok script) = reading ≡ Reads script
-Answers reading (Err Memory) = ⊤
-Answers reading (Err (AtLine number why)) = reading ≡ Fails number why
+abbrev pub ReadsAs : Reading → Result (List ScriptLine) ScriptFault → Type 0
+ReadsAs reading (Ok script) = reading ≡ Reads script
+ReadsAs reading (Err Memory) = ⊤
+ReadsAs reading (Err (AtLine number why)) = reading ≡ Fails number why

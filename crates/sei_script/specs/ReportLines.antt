@@ -30,9 +30,9 @@ history_text false c number bucket now reply = []
 history_text true c number bucket now reply = entry_text c number bucket now reply
 
 -- whether a reply has a message; an empty one has none
-abbrev pub is_message : List ℕ → Bool
-is_message [] = false
-is_message (b ∷ bs) = true
+abbrev pub has_message : List ℕ → Bool
+has_message [] = false
+has_message (b ∷ bs) = true
 
 -- the line of a reply's message, where it has one
 abbrev pub message_text : ℕ → List ℕ → List ℕ

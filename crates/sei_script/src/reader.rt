@@ -5,7 +5,7 @@ ghost use Rattle.sei_script.specs.Limits.{script_limit};
 ghost use Rattle.sei_script.specs.Context.{empty_context, context_of, geometry_of};
 ghost use Rattle.sei_script.specs.Fit.{AreFit};
 ghost use Rattle.sei_script.specs.SaysBytes.{SaysBytes};
-ghost use Rattle.sei_script.specs.Reading.{Answers, ends_at, reading_of};
+ghost use Rattle.sei_script.specs.Reading.{ReadsAs, ends_at, reading_of};
 
 use super::line::{Context, Said, ScriptLine, Why};
 use super::lines::Script;
@@ -57,7 +57,7 @@ fn whole(
 ) -> Result<Script, ScriptFault>
     requires context { context ≡ context_of lines.items }
     requires fit { AreFit empty_context lines.items }
-    ensures { Answers (ends_at lines.items number rest.now) result }
+    ensures { ReadsAs (ends_at lines.items number rest.now) result }
 {
     if !rest.is_empty() {
         return Err(ScriptFault::Line {
@@ -76,7 +76,7 @@ fn whole(
 
 /// Reads a script.
 pub fn read_script(alloc: Global, bytes: &[u8]) -> Result<Script, ScriptFault>
-    ensures answer { Answers (reading_of script_limit bytes.now) result }
+    ensures answer { ReadsAs (reading_of script_limit bytes.now) result }
     ensures fit { IfOk result (λ script. AreFit empty_context script) }
     ensures geometry { IfOk result (λ script. IsValid (geometry_of script)) }
     ensures bytes { IfOk result (λ script. All SaysBytes script) }

@@ -3,7 +3,7 @@ ghost use Rattle.std.specs.Io.KnownBytes.{append_known};
 ghost use Rattle.sei_outside.specs.Faults.{Rose};
 ghost use Rattle.sei_outside.specs.Bytes.{WrotePart};
 ghost use Rattle.sei_script.specs.AbortLines.{abort_text};
-ghost use Rattle.sei_script.specs.ReportLines.{is_message, history_text, message_text, closing_line_text, refused_text};
+ghost use Rattle.sei_script.specs.ReportLines.{has_message, history_text, message_text, closing_line_text, refused_text};
 
 use super::aborts::abort_text;
 use super::texts::{closed_text, entry_text, refused_text, sent_text};
@@ -69,7 +69,7 @@ impl Reporter {
 
     /// The line of a reply's message, where it has one.
     pub fn write_message<K: Sink>(&self, sink: &mut K, c: u32, reply: &[u8]) -> Result<bool, Stop>
-        ensures sent { IfOk result (λ sent. sent ≡ is_message reply.now) }
+        ensures sent { IfOk result (λ sent. sent ≡ has_message reply.now) }
         ensures all { OnOk result (K.written sink.new ≡ append_known (K.written sink.old) (message_text c reply.now)) }
         ensures part { WrotePart (K.written sink.old) (K.written sink.new) (message_text c reply.now) }
         ensures fault { result ≡ Err Stop.WriteFault → Rose (K.faults sink.old) (K.faults sink.new) }

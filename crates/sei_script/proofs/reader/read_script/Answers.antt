@@ -3,8 +3,8 @@ use Rattle.std.specs.Prelude.{◌==◌}
 use Rattle.std.specs.List.{position}
 use Rattle.sei_script.specs.Context.{context_after, empty_context}
 use Rattle.sei_script.specs.Faults.{once, holds}
-use Rattle.sei_script.specs.Fit.{IsFit}
-use Rattle.sei_script.specs.Reading.{Reading, Answers, ends_at, reading_of}
+use Rattle.sei_script.specs.Fit.{IsWellPlaced}
+use Rattle.sei_script.specs.Reading.{Reading, ReadsAs, ends_at, reading_of}
 use Rattle.sei_script.specs.Says.{line_says}
 use Rattle.sei_script.specs.Limits.{script_limit}
 use Rattle.sei_script.specs.declared.line.Context.{Context}
@@ -50,12 +50,12 @@ loop-end-preserved c =
           let s : Line line ≡ once l.lines.items (line_says l.context (take c.in-Some.end l.rest.now)) = sym w.in-Line.is ∙ said in
           let items : c.match-once.lines.items ≡ l.lines.items ++ line ∷ [] = ap (λ v. v.items) w.lines-is ∙ w.in_ok-push-in-Line.ensures.items in
           let context : c.match-once.context ≡ context_after l.context line = w.context-is ∙ w.after-context.ensures in
-          let fit : IsFit l.context line = subst (λ said. Fit l.context said) (sym s) (said_fit l.context l.lines.items (take c.in-Some.end l.rest.now)) in
+          let fit : IsWellPlaced l.context line = subst (λ said. Fit l.context said) (sym s) (said_fit l.context l.lines.items (take c.in-Some.end l.rest.now)) in
           record {
             whole = rw (items, r) (sym (line_led l.lines.items l.number c.in-Some.end l.context l.rest.now _ f l.invariant.context s) ∙ l.invariant.whole);
             context = rw (items, context, context_more empty_context l.lines.items line) (ap (λ (x : Context). context_after x line) l.invariant.context);
             few = rw context (few_more l.context line l.invariant.few fit);
-            fit = rw items (fit_more empty_context l.lines.items line l.invariant.fit (subst (λ (x : Context). IsFit x line) l.invariant.context fit));
+            fit = rw items (fit_more empty_context l.lines.items line l.invariant.fit (subst (λ (x : Context). IsWellPlaced x line) l.invariant.context fit));
             planned = rw (items, w.traversals-is) (planned_now l.traversals w.add.new.self l.lines.items line w.in_ok-add-in-Line.ensures l.invariant.planned);
             number = number;
             size = l.invariant.size;
@@ -68,7 +68,7 @@ answer c =
     let small : length c.args.bytes.now ≤ script_limit = omega arith in
     let none : position (λ b. b == 10) l.rest.now ≡ None = nowhere _ l.rest.now c.find.ensures c.in_default.not-Some in
     let same : reading_of script_limit c.args.bytes.now ≡ ends_at l.lines.items l.number l.rest.now = starts _ _ small ∙ sym l.invariant.whole ∙ no_line _ _ l.rest.now none in
-    subst (λ (r : Reading). Answers r c.whole.result) (sym same) c.whole.ensures
+    subst (λ (r : Reading). ReadsAs r c.whole.result) (sym same) c.whole.ensures
 
 pub returns-clause-answer : goal.returns-clause-answer
 returns-clause-answer c = answer c
