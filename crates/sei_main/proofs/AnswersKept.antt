@@ -13,7 +13,7 @@ use Rattle.sei_traverse.specs.declared.turned.State.TheVariants.{Finished, Refus
 use Rattle.sei_main.specs.declared.plans.CallNumber.{CallNumber}
 use Rattle.sei_main.specs.declared.world.service.Entered.{Entered as EntryOf}
 use Rattle.sei_main.specs.declared.world.service.Served.{Served}
-use Rattle.sei_main.specs.Answering.{Asked, Answering, AnswerOf}
+use Rattle.sei_main.specs.Answering.{Asked, Answering, CallResult}
 use Rattle.sei_main.specs.Asked.{IsCallAt}
 use Rattle.sei_main.specs.Ends.{has_abort}
 use Rattle.sei_main.specs.Events.{Event, Entered}
@@ -21,11 +21,11 @@ use Rattle.sei_main.specs.History.{Entry, IsLegal}
 use Rattle.sei_main.specs.Own.{AreCounted, calls_in, message_of, messages_of}
 use Rattle.sei_main.specs.Plans.{plan_at}
 use Rattle.sei_main.specs.State.{entry_for, entry_events, limits_of}
-use Rattle.sei_main.specs.Serving.{Asking, AnswersOf, asked_in, entered_events, sent_events, ended_events, served_events, on_with, answer_in, answers_by}
+use Rattle.sei_main.specs.Serving.{Asking, RequestResult, asked_in, entered_events, sent_events, ended_events, served_events, on_with, answer_in, answers_by}
 use Rattle.sei_main.proofs.EndLaws.{GoesOn, EndsStruck, goes_nil, goes_append, goes_entry, goes_sending, goes_refused, ends_append, ends_aborted, abort_behind}
 use Rattle.sei_main.proofs.KeptServer.{ServerKept, StandsAt, answer_kept}
-use Rattle.sei_main.specs.Outcomes.{IsolatesFaults, Outcome, IsStruck, HasPlan, refused_served, entry, reply}
-use Rattle.sei_main.specs.Outcomes.Outcome.{AsThere, TurnedAway, Stopped}
+use Rattle.sei_main.specs.Outcomes.{IsolatesFaults, CallOutcome, PlannedFaultStruck, HasPlan, refused_served, entry, reply}
+use Rattle.sei_main.specs.Outcomes.CallOutcome.{AsThere, TurnedAway, Stopped}
 use Rattle.sei_main.proofs.OwnEvents.{IsOwnOf, own_none, own_entry, own_message, own_ended, own_append, own_behind}
 use Rattle.sei_main.proofs.Simulated.{plain_events}
 
@@ -49,7 +49,7 @@ pub record IsPart (g : Geometry) (history : List Entry) (c n messages : ℕ) (ca
   pub legal : IsLegal g (history ++ entries)
 
 -- all of them were answered; or a fault struck, and the connection was refused, or the traversal aborted
-pub data AnswersKept {S : Type 0} (R : S → Server → Type 0) (g : Geometry) (history : List Entry) (c n messages : ℕ) (plans : List (CallNumber × Planned)) (calls : List Placed) (x : AnswersOf S) : Type 0 where
+pub data AnswersKept {S : Type 0} (R : S → Server → Type 0) (g : Geometry) (history : List Entry) (c n messages : ℕ) (plans : List (CallNumber × Planned)) (calls : List Placed) (x : RequestResult S) : Type 0 where
   Whole : (entries : List Entry) → IsPart g history c n messages calls x.events x.messages entries entries → x.state ≡ Finished → calls_in entries ≡ calls
       → GoesOn x.events → StandsBehind R g x.server (history ++ entries) → AnswersKept R g history c n messages plans calls x
   Turned : (entries : List Entry) → IsPart g history c n messages calls x.events x.messages entries entries → x.state ≡ Refused → 0 < length plans
@@ -78,7 +78,7 @@ prefix_more : (e : Entry) (xs ys : List Entry) → IsPrefixOf xs ys → IsPrefix
 prefix_more e xs ys h = (h.0, ap (λ (zs : List Entry). e ∷ zs) h.1)
 
 module _ {S : Type 0} (R : S → Server → Type 0) (g : Geometry) (q : Asking) where
-  abbrev Kept : List Entry → ℕ → ℕ → List Placed → AnswersOf S → Type 0
+  abbrev Kept : List Entry → ℕ → ℕ → List Placed → RequestResult S → Type 0
   Kept history n messages calls x = AnswersKept R g history q.connection n messages q.plans calls x
 
   -- no calls
@@ -95,9 +95,9 @@ module _ {S : Type 0} (R : S → Server → Type 0) (g : Geometry) (q : Asking) 
       }) refl refl goes_nil (subst (StandsBehind R g s) same stands)
 
   -- a call that finished, and the later ones
-  module _ (history : List Entry) (n next messages : ℕ) (p : Placed) (calls : List Placed) (e : Entry) (here later : AnswersOf S) (of_c : e.connection ≡ q.connection) (numbered : e.number ≡ n) (is : calls_in (e ∷ []) ≡ p ∷ [])
+  module _ (history : List Entry) (n next messages : ℕ) (p : Placed) (calls : List Placed) (e : Entry) (here later : RequestResult S) (of_c : e.connection ≡ q.connection) (numbered : e.number ≡ n) (is : calls_in (e ∷ []) ≡ p ∷ [])
       (one_more : next ≡ n + 1) (longer : here.messages ≡ messages + length (message_of e.reply)) (are : here.events ≡ entry_events e) where
-    abbrev both : AnswersOf S
+    abbrev both : RequestResult S
     both = on_with here later Finished
 
     more : (entries answered : List Entry) → IsPart g (history ++ e ∷ []) q.connection next here.messages calls later.events later.messages entries answered
@@ -149,10 +149,10 @@ module _ {S : Type 0} (answering : Answering S) (R : S → Server → Type 0) (g
     abbrev a : Asked
     a = asked_in q nth messages p
 
-    abbrev x : AnswerOf S
+    abbrev x : CallResult S
     x = answering s a
 
-    abbrev here : AnswersOf S
+    abbrev here : RequestResult S
     here = answer_in answering q nth messages s p
 
     -- the entry of the plain server, and the one behind it
@@ -168,11 +168,11 @@ module _ {S : Type 0} (answering : Answering S) (R : S → Server → Type 0) (g
     legal_none : IsLegal g (history ++ [])
     legal_none = subst (IsLegal g) same stands.kept.legal
 
-    planned : IsStruck R t a x → 0 < length q.plans
+    planned : PlannedFaultStruck R t a x → 0 < length q.plans
     planned struck = some_plans q.plans q.connection n struck.planned
 
     -- refused: nothing was done
-    turned : x.served ≡ refused_served → R x.server t → IsStruck R t a x → AnswersKept R g history q.connection n messages q.plans (p ∷ calls) here
+    turned : x.served ≡ refused_served → R x.server t → PlannedFaultStruck R t a x → AnswersKept R g history q.connection n messages q.plans (p ∷ calls) here
     turned is related struck =
         let events : here.events ≡ ended_events q.connection n Refused x.strikes = ap (λ (v : Served). served_events q.connection n p v x.strikes) is in
         Turned []
@@ -193,7 +193,7 @@ module _ {S : Type 0} (answering : Answering S) (R : S → Server → Type 0) (g
     goes_entered None = goes_nil
     goes_entered (Some v) = goes_entry (entry_for v.now q.connection n p v.reply)
 
-    ends_here : (abort : Abort) → x.served.state ≡ Aborted abort → IsStruck R t a x → EndsStruck here.events
+    ends_here : (abort : Abort) → x.served.state ≡ Aborted abort → PlannedFaultStruck R t a x → EndsStruck here.events
     ends_here abort is struck =
         let last : EndsStruck (ended_events q.connection n x.served.state x.strikes) =
         subst (λ (state : State). EndsStruck (ended_events q.connection n state x.strikes)) (sym is) (ends_aborted q.connection n abort x.strikes struck.struck) in
@@ -206,7 +206,7 @@ module _ {S : Type 0} (answering : Answering S) (R : S → Server → Type 0) (g
         abort_behind (entered_events q.connection n p x.served.entered) (sent_events q.connection x.served.message ++ ended_events q.connection n x.served.state x.strikes)
         (abort_behind (sent_events q.connection x.served.message) (ended_events q.connection n x.served.state x.strikes) last)
 
-    ended_with : (abort : Abort) → x.served.state ≡ Aborted abort → IsStruck R t a x → (entries answered : List Entry) → IsPrefixOf (calls_in entries) (p ∷ calls) → AreCounted n entries
+    ended_with : (abort : Abort) → x.served.state ≡ Aborted abort → PlannedFaultStruck R t a x → (entries answered : List Entry) → IsPrefixOf (calls_in entries) (p ∷ calls) → AreCounted n entries
         → IsOwnOf q.connection (entered_events q.connection n p x.served.entered) entries [] → IsOwnOf q.connection (sent_events q.connection x.served.message) [] answered
         → length (message_of x.served.message) ≡ length (messages_of answered) → IsLegal g (history ++ entries) → IsPrefixOf answered entries
         → AnswersKept R g history q.connection n messages q.plans (p ∷ calls) here
@@ -228,7 +228,7 @@ module _ {S : Type 0} (answering : Answering S) (R : S → Server → Type 0) (g
     none_long : x.served.message ≡ [] → length (message_of x.served.message) ≡ 0
     none_long f = ap (λ (m : List ℕ). length (message_of m)) f
 
-    ended : (abort : Abort) → x.served.state ≡ Aborted abort → IsStruck R t a x
+    ended : (abort : Abort) → x.served.state ≡ Aborted abort → PlannedFaultStruck R t a x
         → (x.served.entered ≡ None) ⊎ (x.served.entered ≡ Some (entry R t a x)) → (x.served.message ≡ []) ⊎ ((x.served.entered ≡ Some (entry R t a x)) × (x.served.message ≡ reply R t a x))
         → AnswersKept R g history q.connection n messages q.plans (p ∷ calls) here
     ended abort is struck (inl none) (inl silent) = ended_with abort is struck [] [] (p ∷ calls, refl) tt (entered_none none) (sent_none silent) (none_long silent) legal_none ([], refl)
@@ -239,10 +239,10 @@ module _ {S : Type 0} (answering : Answering S) (R : S → Server → Type 0) (g
         (ap (λ (m : List ℕ). length (message_of m)) said.1 ∙ ap length (sym (append-nil (message_of e.reply)))) next_kept.legal ([], refl)
 
     -- one call, and then the later ones
-    pub call_kept : Outcome R t a x → ((s : S) → StandsBehind R g s (history ++ e ∷ []) → AnswersKept R g (history ++ e ∷ []) q.connection (q.first + (nth + 1)) here.messages q.plans calls (answers_by answering q (nth + 1) here.messages s calls))
+    pub call_kept : CallOutcome R t a x → ((s : S) → StandsBehind R g s (history ++ e ∷ []) → AnswersKept R g (history ++ e ∷ []) q.connection (q.first + (nth + 1)) here.messages q.plans calls (answers_by answering q (nth + 1) here.messages s calls))
         → AnswersKept R g history q.connection n messages q.plans (p ∷ calls) (on_with here (answers_by answering q (nth + 1) here.messages here.server calls) here.state)
     call_kept (AsThere there) rest =
-        let later : AnswersOf S = answers_by answering q (nth + 1) here.messages here.server calls in
+        let later : RequestResult S = answers_by answering q (nth + 1) here.messages here.server calls in
         let finished : here.state ≡ Finished = ap (λ (v : Served). v.state) there.same in
         let events : here.events ≡ entry_events e = ap (λ (v : Served). served_events q.connection n p v x.strikes) there.same ∙ plain_events q.now q.connection n p (reply R t a x) x.strikes in
         let longer : here.messages ≡ messages + length (message_of e.reply) = ap (λ (v : Served). messages + length (message_of v.message)) there.same in

@@ -8,13 +8,13 @@ use Rattle.sei_outside.specs.Bytes.{WrotePart}
 use Rattle.mc_model.specs.Call.{Placed}
 use Rattle.sei_traverse.specs.declared.turned.State.{State}
 use Rattle.sei_traverse.specs.declared.turned.State.TheVariants.{Went, Finished, Refused, Aborted}
-use Rattle.sei_script.specs.ReportLines.{is_message}
+use Rattle.sei_script.specs.ReportLines.{has_message}
 use Rattle.sei_main.specs.declared.world.state.Answered.{Answered}
 use Rattle.sei_main.specs.Answering.{Answering}
-use Rattle.sei_main.specs.Becomes.{IsAnswered}
+use Rattle.sei_main.specs.Becomes.{IsResultOf}
 use Rattle.sei_main.specs.Own.{message_of}
 use Rattle.sei_main.specs.Events.{Event}
-use Rattle.sei_main.specs.Serving.{Asking, AnswersOf, answer_in, answers_by, on_with, is_stopped}
+use Rattle.sei_main.specs.Serving.{Asking, RequestResult, answer_in, answers_by, on_with, is_stopped}
 use Rattle.sei_main.specs.Report.{events_text}
 use Rattle.sei_main.proofs.Written.{Written, written_start, written_more, written_part, written_all, written_same}
 
@@ -33,15 +33,6 @@ pub none_of : {A : Type 0} (o : Option A) → ((x : A) → o ≡ Some x → ⊥)
 none_of None h = refl
 none_of (Some x) h = absurd (h x refl)
 
--- one message more, where a call sent one
-pub one_message : (message : List ℕ) (sent : Bool) → sent ≡ is_message message → length (message_of message) ≡ bool_byte sent
-one_message [] sent e = sym (ap bool_byte e)
-one_message (b ∷ bs) sent e = sym (ap bool_byte e)
-
-pub at_most_one : (sent : Bool) → bool_byte sent ≤ 1
-at_most_one true = omega arith
-at_most_one false = omega arith
-
 pub unfinished : (state : State) → is_stopped state ≡ true → state ≡ Finished → ⊥
 unfinished state e f = let z : false ≡ true = ap is_stopped (sym f) ∙ e in cc
 
@@ -51,7 +42,7 @@ finished_is Went e = let z : ⊥ = cc in absurd z
 finished_is Refused e = let z : ⊥ = cc in absurd z
 finished_is (Aborted abort) e = let z : ⊥ = cc in absurd z
 
-module _ {S : Type 0} (here later : AnswersOf S) where
+module _ {S : Type 0} (here later : RequestResult S) where
   -- what happens in a call happens first
   starts : (state : State) → (more : List Event) × ((on_with here later state).events ≡ here.events ++ more)
   starts Finished = (later.events, refl)
@@ -68,10 +59,10 @@ module _ {S : Type 0} (here later : AnswersOf S) where
 
 module _ {S : Type 0} (answering : Answering S) (q : Asking) where
   -- the answers from the nth call on, behind so many messages
-  abbrev pub later : ℕ → ℕ → S → List Placed → AnswersOf S
+  abbrev pub later : ℕ → ℕ → S → List Placed → RequestResult S
   later nth messages server calls = answers_by answering q nth messages server (drop nth calls)
 
-  abbrev pub whole : S → List Placed → AnswersOf S
+  abbrev pub whole : S → List Placed → RequestResult S
   whole start calls = answers_by answering q 0 0 start calls
 
   pub record CallsSoFar (h : Bool) (old now : Option (List ℕ)) (nth messages : ℕ) (start server : S) (calls : List Placed) : Type 0 where
@@ -85,10 +76,10 @@ module _ {S : Type 0} (answering : Answering S) (q : Asking) where
   calls_start h old start calls = record { written = written_start h old (whole start calls).events; server_is = refl; messages_are = refl; state_is = refl; few = omega arith }
 
   module _ (h : Bool) (old now new : Option (List ℕ)) (nth messages : ℕ) (start server : S) (calls : List Placed) (p : Placed) (so_far : CallsSoFar h old now nth messages start server calls) (is : Some p ≡ slice_get calls nth) where
-    abbrev here : AnswersOf S
+    abbrev here : RequestResult S
     here = answer_in answering q nth messages server p
 
-    abbrev rest : AnswersOf S
+    abbrev rest : RequestResult S
     rest = later (nth + 1) here.messages here.server calls
 
     -- the answers from here on are one answer, and then the later ones
@@ -96,18 +87,18 @@ module _ {S : Type 0} (answering : Answering S) (q : Asking) where
     front = ap (λ (ps : List Placed). answers_by answering q nth messages server ps) (call_there calls nth p is)
 
     -- a call more
-    pub call_more : (next : S) (answered : Answered) → next ≡ here.server → IsAnswered answered here → answered.messages ≤ nth + 1 → answered.state ≡ Finished → new ≡ append_known now (events_text h here.events) →
+    pub call_more : (next : S) (answered : Answered) → next ≡ here.server → IsResultOf answered here → answered.messages ≤ nth + 1 → answered.state ≡ Finished → new ≡ append_known now (events_text h here.events) →
         CallsSoFar h old new (nth + 1) answered.messages start next calls
     call_more next answered n a few finished w =
         let same : later (nth + 1) answered.messages next calls ≡ rest =
         ap (λ (m : ℕ). later (nth + 1) m next calls) a.messages ∙ ap (λ (s : S). later (nth + 1) here.messages s calls) n in
         let on : later nth messages server calls ≡ on_with here rest Finished = front ∙ ap (on_with here rest) (sym a.state ∙ finished) in
         record {
-          written = written_same h old new _ _ _ (ap (λ (x : AnswersOf S). x.events) (sym same))
-              (written_more h old now new here.events rest.events _ (written_same h old now _ _ _ (ap (λ (x : AnswersOf S). x.events) on) so_far.written) w);
-          server_is = ap (λ (x : AnswersOf S). x.server) same ∙ sym (ap (λ (x : AnswersOf S). x.server) on) ∙ so_far.server_is;
-          messages_are = ap (λ (x : AnswersOf S). x.messages) same ∙ sym (ap (λ (x : AnswersOf S). x.messages) on) ∙ so_far.messages_are;
-          state_is = ap (λ (x : AnswersOf S). x.state) same ∙ sym (ap (λ (x : AnswersOf S). x.state) on) ∙ so_far.state_is;
+          written = written_same h old new _ _ _ (ap (λ (x : RequestResult S). x.events) (sym same))
+              (written_more h old now new here.events rest.events _ (written_same h old now _ _ _ (ap (λ (x : RequestResult S). x.events) on) so_far.written) w);
+          server_is = ap (λ (x : RequestResult S). x.server) same ∙ sym (ap (λ (x : RequestResult S). x.server) on) ∙ so_far.server_is;
+          messages_are = ap (λ (x : RequestResult S). x.messages) same ∙ sym (ap (λ (x : RequestResult S). x.messages) on) ∙ so_far.messages_are;
+          state_is = ap (λ (x : RequestResult S). x.state) same ∙ sym (ap (λ (x : RequestResult S). x.state) on) ∙ so_far.state_is;
           few = few;
         }
 
@@ -115,40 +106,23 @@ module _ {S : Type 0} (answering : Answering S) (q : Asking) where
     pub call_part : WrotePart now new (events_text h here.events) → WrotePart old new (events_text h (whole start calls).events)
     call_part w =
         let s = starts here rest here.state in
-        written_part h old now new here.events s.0 _ (written_same h old now _ _ _ (ap (λ (x : AnswersOf S). x.events) front ∙ s.1) so_far.written) w
+        written_part h old now new here.events s.0 _ (written_same h old now _ _ _ (ap (λ (x : RequestResult S). x.events) front ∙ s.1) so_far.written) w
 
     -- the last call: it did not finish
     call_stops : (here.state ≡ Finished → ⊥) → later nth messages server calls ≡ here
     call_stops unfinished = front ∙ stops here rest here.state unfinished
 
     pub stop_server : (next : S) → next ≡ here.server → (here.state ≡ Finished → ⊥) → next ≡ (whole start calls).server
-    stop_server next n u = n ∙ sym (ap (λ (x : AnswersOf S). x.server) (call_stops u)) ∙ so_far.server_is
+    stop_server next n u = n ∙ sym (ap (λ (x : RequestResult S). x.server) (call_stops u)) ∙ so_far.server_is
 
-    pub stop_answered : (answered : Answered) → IsAnswered answered here → (here.state ≡ Finished → ⊥) → IsAnswered answered (whole start calls)
+    pub stop_answered : (answered : Answered) → IsResultOf answered here → (here.state ≡ Finished → ⊥) → IsResultOf answered (whole start calls)
     stop_answered answered a u = record {
-      messages = a.messages ∙ sym (ap (λ (x : AnswersOf S). x.messages) (call_stops u)) ∙ so_far.messages_are;
-      state = a.state ∙ sym (ap (λ (x : AnswersOf S). x.state) (call_stops u)) ∙ so_far.state_is;
+      messages = a.messages ∙ sym (ap (λ (x : RequestResult S). x.messages) (call_stops u)) ∙ so_far.messages_are;
+      state = a.state ∙ sym (ap (λ (x : RequestResult S). x.state) (call_stops u)) ∙ so_far.state_is;
     }
 
     pub stop_all : new ≡ append_known now (events_text h here.events) → (here.state ≡ Finished → ⊥) → new ≡ append_known old (events_text h (whole start calls).events)
     stop_all w u =
         let none : later nth messages server calls ≡ here = call_stops u in
         written_all h old new (whole start calls).events
-        (written_more h old now new here.events [] _ (written_same h old now _ _ _ (ap (λ (x : AnswersOf S). x.events) none ∙ sym (append-nil here.events)) so_far.written) w)
-
-  module _ (h : Bool) (old now : Option (List ℕ)) (nth messages : ℕ) (start server : S) (calls : List Placed) (so_far : CallsSoFar h old now nth messages start server calls) (all : length calls ≤ nth) where
-    -- behind the last call
-    none_left : later nth messages server calls ≡ record { server = server; events = []; messages = messages; state = Finished }
-    none_left = ap (λ (ps : List Placed). answers_by answering q nth messages server ps) (drop_all nth calls all)
-
-    pub end_server : server ≡ (whole start calls).server
-    end_server = sym (ap (λ (x : AnswersOf S). x.server) none_left) ∙ so_far.server_is
-
-    pub end_answered : (answered : Answered) → answered.messages ≡ messages → answered.state ≡ Finished → IsAnswered answered (whole start calls)
-    end_answered answered m f = record {
-      messages = m ∙ sym (ap (λ (x : AnswersOf S). x.messages) none_left) ∙ so_far.messages_are;
-      state = f ∙ sym (ap (λ (x : AnswersOf S). x.state) none_left) ∙ so_far.state_is;
-    }
-
-    pub end_all : now ≡ append_known old (events_text h (whole start calls).events)
-    end_all = written_all h old now (whole start calls).events (written_same h old now _ _ _ (ap (λ (x : AnswersOf S). x.events) none_left) so_far.written)
+        (written_more h old now new here.events [] _ (written_same h old now _ _ _ (ap (λ (x : RequestResult S). x.events) none ∙ sym (append-nil here.events)) so_far.written) w)

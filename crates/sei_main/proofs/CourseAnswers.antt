@@ -24,8 +24,8 @@ use Rattle.sei_traverse.specs.declared.walk.Walk.{Walk}
 use Rattle.sei_traverse.specs.Comes.{renoted}
 use Rattle.sei_traverse.specs.Errand.{Errand, first_start}
 use Rattle.sei_traverse.specs.Phases.{reply_of}
-use Rattle.sei_traverse.specs.Struck.{Answers}
-use Rattle.sei_traverse.specs.Trusted.{IsFit, second_setting}
+use Rattle.sei_traverse.specs.Struck.{IsHonestResult}
+use Rattle.sei_traverse.specs.Trusted.{PassesGuard, second_setting}
 use Rattle.sei_main.specs.Errands.{errand_for}
 use Rattle.sei_main.proofs.CourseStep.{NotesNow}
 use Rattle.sei_main.proofs.TableLaws.{IsGood}
@@ -42,7 +42,7 @@ module _ (g : Geometry) (valid : IsValid g) (text : List ℕ) (now : ℕ) (small
   e = errand_for g text sealed p taken now
 
   -- the second pass by notes of this time
-  serves : IsFit e → (slot : ℕ) →
+  serves : PassesGuard e → (slot : ℕ) →
       Serves (second_setting e) (λ ws. Stands g ws (answer (room_of g) b now p.call).0) (answer (room_of g) b now p.call).1 (renoted (notes_of now slot) (first_start e))
   serves fit slot =
       hands_serve g valid (second_setting e) (record { statements_are = refl; rendered_are = refl; budget_is = refl; slots_are = refl; free_are = refl })
@@ -53,7 +53,7 @@ module _ (g : Geometry) (valid : IsValid g) (text : List ℕ) (now : ℕ) (small
   same_time o time noted (inr is) = let same : seal time ≡ seal now = cc in (ap (λ (c : Coded). c.value) same, is)
 
   -- by an honest run on the words that were taken
-  pub is_answer : (w : Walk) (words : List ℕ) (asked : ℕ) → Answers e w words asked → NotesNow now w.notes.now → IsAnswer g now p b words w
+  pub is_answer : (w : Walk) (words : List ℕ) (asked : ℕ) → IsHonestResult e w words asked → NotesNow now w.notes.now → IsAnswer g now p b words w
   is_answer w words asked a notes = by_end (serves a.aimed.fit a.slot)
     where
       time : (a.time ≡ now) × (w.notes.now ≡ Some (seal now))

@@ -31,7 +31,7 @@ use Rattle.sei_main.specs.Errands.{service_for}
 use Rattle.sei_main.specs.Tables.{AreServer}
 use Rattle.sei_main.proofs.CourseShape.{Shape, shape_on, tables, errand_at}
 use Rattle.sei_main.proofs.CourseShape.Shape.{Before}
-use Rattle.sei_main.proofs.CourseStep.{traversal, none_asked, NotesNow, kept, step, kept, notes_now, stays_within}
+use Rattle.sei_main.proofs.CourseStep.{traversal, none_asked, NotesNow, kept, course_step, kept, notes_now, stays_within}
 use Rattle.sei_main.proofs.HandsTrusted.{IsSealedCall}
 use Rattle.sei_main.proofs.ScriptedRuns.{one_falls, unplanned, unplanned_stays}
 use Rattle.sei_main.proofs.TableLaws.{IsGood}
@@ -40,7 +40,7 @@ use Rattle.sei_main.proofs.WalkKept.{FitsIn}
 one_more_is : (n : ℕ) → suc n < 2 ^ 64 → one_more n ≡ suc n
 one_more_is n small = omega (arith, small)
 
--- a traversal that has ended makes no step
+-- a traversal that has ended makes no course_step
 still_ended : (g : Geometry) (text : List ℕ) (now n : ℕ) (c : Course) → (c.served.state ≡ Went → ⊥) → course_from g text now n c ≡ c
 still_ended g text now zero c h = refl
 still_ended g text now (suc n) c h = ap (course_from g text now n) (still c.served.state h) ∙ still_ended g text now n c h
@@ -124,7 +124,7 @@ module _ (g : Geometry) (text : List ℕ) (now : ℕ) (buckets : List BucketWord
   within_on : (c : Course) (steps : ℕ) → IsTraversal (traversal g c.walk steps) → StepsWithin (traversal g c.walk steps) none_asked (script_counts c.core) →
       StepsAfter (traversal g (course_on g text now c).walk (one_more steps)) none_asked (script_counts (course_on g text now c).core) (course_on g text now c).served.state
   unfolding course_on
-  within_on c steps is within = by (step g text now c.walk (loan_in c.buckets c.lent) c.core) (step g text now c.walk (loan_in c.buckets c.lent) c.core).0.walk.want
+  within_on c steps is within = by (course_step g text now c.walk (loan_in c.buckets c.lent) c.core) (course_step g text now c.walk (loan_in c.buckets c.lent) c.core).0.walk.want
       (stays_within g text now c.walk (loan_in c.buckets c.lent) c.core none_asked steps is within)
     where
       by : (x : Turn × ScriptState) (want : Want) → StepsAfter (traversal g x.0.walk (one_more steps)) none_asked (script_counts x.1) x.0.state →

@@ -33,19 +33,19 @@ use Rattle.sei_traverse.specs.Facts.ClosesOnce.{Stays, Closes, Lacks}
 use Rattle.sei_traverse.specs.Phases.{reply_of, send_want}
 use Rattle.sei_traverse.specs.State.{TraversalState, one_more}
 use Rattle.sei_traverse.specs.Step.{Turn}
-use Rattle.sei_traverse.specs.Struck.{Answers, SendStruck}
+use Rattle.sei_traverse.specs.Struck.{IsHonestResult, SendStruck}
 use Rattle.sei_traverse.specs.Trusted.{IsTrusted}
 use Rattle.sei_traverse.proofs.FactsLaws.{facts_lent, facts_given}
 use Rattle.sei_main.specs.declared.world.service.Entered.{Entered}
 use Rattle.sei_main.specs.Course.{Course, loan_in, put_back, lent_behind, entered_by, served_behind, course_on}
 use Rattle.sei_main.specs.Errands.{errand_for}
-use Rattle.sei_main.specs.Tables.{Tables, bucket_words, AreServer, IsBucketOf}
+use Rattle.sei_main.specs.Tables.{Tables, bucket_words, AreServer, IsBucketImage}
 use Rattle.sei_main.proofs.CourseAnswers.{IsAnswer, is_answer}
-use Rattle.sei_main.proofs.CourseStep.{traversal, none_asked, NotesNow, step, notes_now, isolates}
+use Rattle.sei_main.proofs.CourseStep.{traversal, none_asked, NotesNow, course_step, notes_now, isolates}
 use Rattle.sei_main.proofs.HandsTrusted.{IsSealedCall, hands_are_trusted}
 use Rattle.sei_main.proofs.TableLaws.{IsGood}
 
--- what is known behind a step stays known where the words that were taken are lent, and where they are given back
+-- what is known behind a course_step stays known where the words that were taken are lent, and where they are given back
 
 after_lent : (e : Errand) (t : TraversalState) (begin now : Counts) → IsTrusted e → t.walk.gate.done ≡ 2 → (state : State) → FactsAfter e t None begin now state → FactsAfter e t (Some e.taken) begin now state
 after_lent e t begin now trusted gate Went h = facts_lent e t begin now trusted gate h
@@ -159,7 +159,7 @@ module _ (g : Geometry) (text : List ℕ) (now : ℕ) (buckets : List BucketWord
     Entry : (k : ℕ) (w : BucketWords) → c.walk.gate.done ≡ 8 → k ≡ p.bucket → IsLent c steps k w → IsEntered c → Shape c steps
     Given : (k : ℕ) (w : BucketWords) → IsGiven c steps k w → Shape c steps
 
-  -- the course behind a step on this loan that turns out so and wants this
+  -- the course behind a course_step on this loan that turns out so and wants this
   abbrev behind : Course → Option BucketWords → Turn × ScriptState → Want → Course
   behind c loan x want = record {
     walk = x.0.walk;
@@ -170,17 +170,17 @@ module _ (g : Geometry) (text : List ℕ) (now : ℕ) (buckets : List BucketWord
   }
 
   on_is : (c : Course) (loan : Option BucketWords) → loan_in c.buckets c.lent ≡ loan →
-      course_on g text now c ≡ behind c loan (step g text now c.walk loan c.core) (step g text now c.walk loan c.core).0.walk.want
+      course_on g text now c ≡ behind c loan (course_step g text now c.walk loan c.core) (course_step g text now c.walk loan c.core).0.walk.want
   unfolding course_on
   on_is c loan e =
-      ap (λ (l : Option BucketWords). behind c l (step g text now c.walk l c.core) (step g text now c.walk l c.core).0.walk.want) e
+      ap (λ (l : Option BucketWords). behind c l (course_step g text now c.walk l c.core) (course_step g text now c.walk l c.core).0.walk.want) e
 
   module _ (valid : IsValid g) (bytes : AreBytes text) (small : now < 2 ^ 64) (good : IsGood g p) (is_call : IsSealedCall g text sealed p) (are : AreServer tables s) where
     trusted : (k : ℕ) → k < g.buckets → IsTrusted (errand_at k)
     trusted k lt = hands_are_trusted g valid text bytes sealed p is_call (bucket_words tables k).words (bucket_at s k) (are.each k lt).stands now small
 
     -- the answer, from the bucket that is the call's
-    answers : (k : ℕ) → k < g.buckets → k ≡ p.bucket → (w : Walk) (words : List ℕ) (asked : ℕ) → Answers (errand_at k) w words asked → NotesNow now w.notes.now → IsAnswer g now p (bucket_at s p.bucket) words w
+    answers : (k : ℕ) → k < g.buckets → k ≡ p.bucket → (w : Walk) (words : List ℕ) (asked : ℕ) → IsHonestResult (errand_at k) w words asked → NotesNow now w.notes.now → IsAnswer g now p (bucket_at s p.bucket) words w
     answers k lt mine w words asked a notes =
         subst (λ (b : ℕ). IsAnswer g now p (bucket_at s b) words w) mine
         (is_answer g valid text now small sealed p good (bucket_words tables k).words (bucket_at s k) (are.each k lt).stands w words asked a notes)
@@ -196,7 +196,7 @@ module _ (g : Geometry) (text : List ℕ) (now : ℕ) (buckets : List BucketWord
       -- Before Take.
       module _ (b : IsBefore c steps) where
         abbrev x : Turn × ScriptState
-        x = step g text now c.walk None c.core
+        x = course_step g text now c.walk None c.core
 
         abbrev next : Want → Course
         next want = behind c None x want
@@ -233,7 +233,7 @@ module _ (g : Geometry) (text : List ℕ) (now : ℕ) (buckets : List BucketWord
         takes : (k : ℕ) → k < g.buckets → x.0.walk.gate.done ≡ 2 → (x.0.state ≡ Went → LendsOn x.0.walk None (WantTake k)) → Shape (next (WantTake k)) (one_more steps)
         takes k lt gate lends =
             let w : BucketWords = bucket_words tables k in
-            let of : IsBucketOf g s k w = are.each k lt in
+            let of : IsBucketImage g s k w = are.each k lt in
             Lent k w (omega (arith, gate)) (omega (arith, gate))
             (record {
               inside = lt;
@@ -276,7 +276,7 @@ module _ (g : Geometry) (text : List ℕ) (now : ℕ) (buckets : List BucketWord
       -- While a bucket is lent.
       module _ (k : ℕ) (w : BucketWords) (l : IsLent c steps k w) where
         abbrev y : Turn × ScriptState
-        y = step g text now c.walk (Some w) c.core
+        y = course_step g text now c.walk (Some w) c.core
 
         abbrev left : BucketWords
         left = record w { words = y.0.words }
@@ -415,7 +415,7 @@ module _ (g : Geometry) (text : List ℕ) (now : ℕ) (buckets : List BucketWord
       -- Behind Give.
       module _ (k : ℕ) (w : BucketWords) (v : IsGiven c steps k w) where
         abbrev z : Turn × ScriptState
-        z = step g text now c.walk None c.core
+        z = course_step g text now c.walk None c.core
 
         abbrev further : Want → Course
         further want = behind c None z want
@@ -516,7 +516,7 @@ module _ (g : Geometry) (text : List ℕ) (now : ℕ) (buckets : List BucketWord
       never_lacking Refused e h = h
       never_lacking (Aborted abort) e h = cc
 
-      -- one step more
+      -- one course_step more
       pub shape_on : Shape c steps → Shape (course_on g text now c) (one_more steps)
       shape_on (Before b) = before_on b
       shape_on (Lacking b) = absurd (never_lacking c.served.state went b.aborted)

@@ -1,4 +1,4 @@
--- One step of the traversal of a call under a planned fault: what is known of it is known behind it.
+-- One course_step of the traversal of a call under a planned fault: what is known of it is known behind it.
 use Rattle.std.proofs.Common.{◌≡◌, ◌⊎◌, inr, ℕ, List, [], ◌∷◌, length, true, Option, Some, None, refl, sym, ap, ◌∙◌, subst, arith}
 use Rattle.mc_model.specs.declared.geometry.Geometry.{Geometry}
 use Rattle.sei_code.specs.Coded.{sealed as seal}
@@ -78,31 +78,31 @@ module _ (g : Geometry) (text : List ℕ) (now : ℕ) (w : Walk) (loan : Option 
   given = given_of (service_for g) text g (bucket_of loan)
 
   -- how it turns out
-  abbrev pub step : Turn × ScriptState
-  step = turned g text now w loan core
+  abbrev pub course_step : Turn × ScriptState
+  course_step = turned g text now w loan core
 
-  runs : TimedTwice gives (Some now) (λ now later. turn_tree given now later w (words_of loan)) core step.1 (turn step.0.walk step.0.words step.0.state)
+  runs : TimedTwice gives (Some now) (λ now later. turn_tree given now later w (words_of loan)) core course_step.1 (turn course_step.0.walk course_step.0.words course_step.0.state)
   runs = record { now = now; later = now; answer = refl; answer_later = refl; runs = runs_scripted script_answer script_next (turn_tree given now now w (words_of loan)) core }
 
   -- the walk keeps its layout, and the words their number
-  pub kept : KeepsWalk g (parsed_call g text) w (words_of loan) step.0.walk step.0.words
+  pub kept : KeepsWalk g (parsed_call g text) w (words_of loan) course_step.0.walk course_step.0.words
   unfolding runs
-  kept = always gives (λ (y : Turn). KeepsWalk g (parsed_call g text) w (words_of loan) y.walk y.words) (turn_tree given now now w (words_of loan)) core step.1 step.0 (turn_kept g (parsed_call g text) w (words_of loan) given refl refl now now) runs.runs
+  kept = always gives (λ (y : Turn). KeepsWalk g (parsed_call g text) w (words_of loan) y.walk y.words) (turn_tree given now now w (words_of loan)) core course_step.1 course_step.0 (turn_kept g (parsed_call g text) w (words_of loan) given refl refl now now) runs.runs
 
   -- no other time is noted
-  pub notes_now : NotesNow now w.notes.now → NotesNow now step.0.walk.notes.now
-  notes_now h = notes_on now w.notes.now step.0.walk.notes.now h (notes_time (Some now) gives given w step.0.walk (words_of loan) step.0.words step.0.state core step.1 runs)
+  pub notes_now : NotesNow now w.notes.now → NotesNow now course_step.0.walk.notes.now
+  notes_now h = notes_on now w.notes.now course_step.0.walk.notes.now h (notes_time (Some now) gives given w course_step.0.walk (words_of loan) course_step.0.words course_step.0.state core course_step.1 runs)
 
   -- the number of steps stays bounded
   pub stays_within : (begin : Counts) (steps : ℕ) → IsTraversal (traversal g w steps) → StepsWithin (traversal g w steps) begin (script_counts core) →
-      StepsAfter (traversal g step.0.walk (one_more steps)) begin (script_counts step.1) step.0.state
+      StepsAfter (traversal g course_step.0.walk (one_more steps)) begin (script_counts course_step.1) course_step.0.state
   stays_within begin steps is within =
-      steps_after_turned gives script_counts script_lawful (Some now) given (words_of loan) step.0.words begin (traversal g w steps) (traversal g step.0.walk (one_more steps)) step.0.state core step.1 runs is refl refl within
+      steps_after_turned gives script_counts script_lawful (Some now) given (words_of loan) course_step.0.words begin (traversal g w steps) (traversal g course_step.0.walk (one_more steps)) course_step.0.state core course_step.1 runs is refl refl within
 
   -- one strike is isolated
   pub isolates : (e : Errand) (steps : ℕ) → IsTrusted e → e.service ≡ service_for g → e.input ≡ text → e.clock ≡ Some now → LendsWanted w loan → Facts e (traversal g w steps) (lent_words loan) none_asked (script_counts core) →
-      Isolates e (traversal g w steps) (traversal g step.0.walk (one_more steps)) loan (left_in loan step.0.words) none_asked (script_counts step.1) step.0.walk.want step.0.state
+      Isolates e (traversal g w steps) (traversal g course_step.0.walk (one_more steps)) loan (left_in loan course_step.0.words) none_asked (script_counts course_step.1) course_step.0.walk.want course_step.0.state
   isolates e steps trusted service input clock lends facts =
-      isolates_one gives script_counts script_lawful (Some now) e none_asked (traversal g w steps) (traversal g step.0.walk (one_more steps)) loan (left_in loan step.0.words) step.0.state core step.1 (service_for g) text service input
-      (subst (λ (ws : List ℕ). TimedTwice gives (Some now) (λ now later. turn_tree given now later w (words_of loan)) core step.1 (turn step.0.walk ws step.0.state)) (sym (left_words loan step.0.words kept.long)) runs)
-      (left_place loan step.0.words) refl refl kept.sealed trusted (tells now e.clock clock) lends facts (omega (arith, one_falls step.1.stage))
+      isolates_one gives script_counts script_lawful (Some now) e none_asked (traversal g w steps) (traversal g course_step.0.walk (one_more steps)) loan (left_in loan course_step.0.words) course_step.0.state core course_step.1 (service_for g) text service input
+      (subst (λ (ws : List ℕ). TimedTwice gives (Some now) (λ now later. turn_tree given now later w (words_of loan)) core course_step.1 (turn course_step.0.walk ws course_step.0.state)) (sym (left_words loan course_step.0.words kept.long)) runs)
+      (left_place loan course_step.0.words) refl refl kept.sealed trusted (tells now e.clock clock) lends facts (omega (arith, one_falls course_step.1.stage))

@@ -9,7 +9,7 @@ use Rattle.sei_script.specs.declared.line.ScriptLine.TheVariants as lines
 use Rattle.sei_main.specs.Quiet.{is_drain, ends_in_drain}
 use Rattle.sei_main.specs.Seats.{Seat, empty_seat}
 use Rattle.sei_main.specs.State.{led_by, State, Told, Went, idle, behind, step, step_front, next_request, limits_of, seat_at, round_from, round, rounds, bytes_waiting}
-use Rattle.sei_main.specs.Run.{after, run_from}
+use Rattle.sei_main.specs.Run.{plain_after, plain_run_from}
 use Rattle.sei_main.proofs.Rounds.{Goes, round_goes, round_took}
 use Rattle.sei_main.proofs.Stepping.{plain_steps}
 
@@ -68,7 +68,7 @@ pub rounds_end : (m : ℕ) (s : State) → bytes_waiting s.seats < m → (round 
 rounds_end zero s h = absurd (omega (arith, h))
 rounds_end (suc m) s h = end_by m s (round s).went refl (λ e. rounds_end m (round s).state (omega (arith, h, round_took step plain_steps s e)))
 
-last_drains : (t : Told) (line : ScriptLine) → is_drain line ≡ true → (round (after t line).state).went ≡ false
+last_drains : (t : Told) (line : ScriptLine) → is_drain line ≡ true → (round (plain_after t line).state).went ≡ false
 unfolding led_by
 last_drains t (lines.Geometry g) e = cc
 last_drains t (lines.Open c) e = cc
@@ -79,7 +79,7 @@ last_drains t (lines.Clock now) e = cc
 last_drains t (lines.Fault c n plan) e = cc
 
 -- a script that ends in a drain
-pub drain_ends : (t : Told) (script : List ScriptLine) → ends_in_drain script ≡ true → (round (run_from t script).state).went ≡ false
+pub drain_ends : (t : Told) (script : List ScriptLine) → ends_in_drain script ≡ true → (round (plain_run_from t script).state).went ≡ false
 drain_ends t [] e = cc
 drain_ends t (line ∷ []) e = last_drains t line e
-drain_ends t (line ∷ next ∷ script) e = drain_ends (after t line) (next ∷ script) e
+drain_ends t (line ∷ next ∷ script) e = drain_ends (plain_after t line) (next ∷ script) e

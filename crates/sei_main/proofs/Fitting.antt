@@ -5,7 +5,7 @@ use Rattle.sei_script.specs.declared.line.ScriptLine.TheVariants as lines
 use Rattle.sei_script.specs.declared.line.Context.{Context}
 use Rattle.sei_script.specs.Limits.{most_connections}
 use Rattle.sei_script.specs.Context.{empty_context, context_after}
-use Rattle.sei_script.specs.Fit.{IsFit, AreFit}
+use Rattle.sei_script.specs.Fit.{IsWellPlaced, AreFit}
 use Rattle.sei_main.specs.State.{Stepping, StateOf, led_by}
 use Rattle.sei_main.specs.Becomes.{IsKnown}
 use Rattle.sei_main.proofs.Rounds.{IsStepping, led_length}
@@ -17,23 +17,7 @@ pub record FitBehind (opens : ℕ) (script : List ScriptLine) : Type 0 where
   pub few : opens ≤ most_connections
   pub fit : AreFit context script
 
-pub fit_start : (script : List ScriptLine) → AreFit empty_context script → FitBehind 0 script
-fit_start script f = record { context = empty_context; opens_is = refl; few = omega arith; fit = f }
-
-known_by : (opens : ℕ) (x : Context) (line : ScriptLine) → opens ≡ x.opens → IsFit x line → IsKnown opens line
-known_by opens x (lines.Geometry g) e f = tt
-known_by opens x (lines.Open c) e f = tt
-known_by opens x (lines.Say c bytes) e f = omega (arith, e, f.1)
-known_by opens x (lines.Hex c bytes) e f = omega (arith, e, f.1)
-known_by opens x lines.Drain e f = tt
-known_by opens x (lines.Clock now) e f = tt
-known_by opens x (lines.Fault c t plan) e f = omega (arith, e, f.1)
-
--- the next line speaks of a connection that is there
-pub fit_known : (opens : ℕ) (line : ScriptLine) (script : List ScriptLine) → FitBehind opens (line ∷ script) → IsKnown opens line
-fit_known opens line script f = known_by opens f.context line f.opens_is f.fit.0
-
-few_by : (opens : ℕ) (x : Context) (line : ScriptLine) → opens ≡ x.opens → opens ≤ most_connections → IsFit x line → (context_after x line).opens ≤ most_connections
+few_by : (opens : ℕ) (x : Context) (line : ScriptLine) → opens ≡ x.opens → opens ≤ most_connections → IsWellPlaced x line → (context_after x line).opens ≤ most_connections
 few_by opens x (lines.Geometry g) e h f = omega (arith, e, h)
 few_by opens x (lines.Open c) e h f = omega (arith, f.1, f.2)
 few_by opens x (lines.Say c bytes) e h f = omega (arith, e, h)

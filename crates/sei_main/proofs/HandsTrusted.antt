@@ -50,21 +50,3 @@ module _ (g : Geometry) (valid : IsValid g) (text : List ℕ) (bytes : AreBytes 
   hands_are_trusted now small = hands_are_trusted_by (Some now) small
 
 -- the sealed call, where there is one
-
-abbrev pub placed_or_blank : Option Placed → Placed
-placed_or_blank None = record { bucket = 0; call = blank Fixed }
-placed_or_blank (Some p) = p
-
-abbrev pub sealed_placed : Geometry → List ℕ → Sealed → Placed
-sealed_placed g text sealed = placed_or_blank (option_and_then (call_in (limits_of g) text) (read_of sealed.nth))
-
-placed_is : (g : Geometry) (o : Option Placed) (x : Parsed) → option_map (parsed_of g) o ≡ Some x → parsed_of g (placed_or_blank o) ≡ x
-placed_is g None x e = absurd cc
-placed_is g (Some p) x e = cc
-
-placed_at : (g : Geometry) (text : List ℕ) (nth : Option ℕ) (x : Parsed) → call_at (parsed_call g text) nth ≡ Some x → parsed_of g (placed_or_blank (option_and_then (call_in (limits_of g) text) nth)) ≡ x
-placed_at g text None x e = absurd cc
-placed_at g text (Some n) x e = placed_is g (call_in (limits_of g) text n) x e
-
-pub is_sealed_call : (g : Geometry) (text : List ℕ) (sealed : Sealed) → IsSealedCall g text sealed (sealed_placed g text sealed)
-is_sealed_call g text sealed x e = placed_at g text (read_of sealed.nth) x e

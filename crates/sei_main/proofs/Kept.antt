@@ -22,7 +22,7 @@ use Rattle.sei_main.specs.Ends.{has_abort}
 use Rattle.sei_main.specs.Events.{Event, entries_of, sent_to}
 use Rattle.sei_main.specs.Seats.{Seat, empty_seat, taken_more, stopped}
 use Rattle.sei_main.specs.State.{ToldOf, Stepping, told, idle, behind, closed_events, next_request, limits_of, seat_at, round_from_by, round_by, rounds_by}
-use Rattle.sei_main.specs.Serving.{Asking, AnswersOf, asking_at, answers_by, seat_for, closing_events, is_abort, takes_request_by, step_front_by, step_by}
+use Rattle.sei_main.specs.Serving.{Asking, RequestResult, asking_at, answers_by, seat_for, closing_events, is_abort, takes_request_by, step_front_by, step_by}
 use Rattle.sei_main.proofs.Answering.{entries_append, sent_append}
 use Rattle.sei_main.proofs.AnswersKept.{AnswersKept, IsPart, StandsBehind, answers_kept}
 use Rattle.sei_main.proofs.AnswersKept.AnswersKept.{Whole, Turned, Ended}
@@ -90,7 +90,7 @@ module _ {S : Type 0} (R : S → Server → Type 0) (g : Geometry) (plans : List
       (k.seats d)
 
   -- a connection takes a request, whose calls were answered so
-  module _ (t : ToldOf S) (k : Kept R g plans fed t) (goes : t.state.aborted ≡ false) (c size : ℕ) (m : Meaning) (next : next_request (limits_of g) (seat_at t.state c) ≡ Some (size, m)) (x : AnswersOf S) (count : ℕ) (count_is : count ≡ length (calls_of g.buckets m)) where
+  module _ (t : ToldOf S) (k : Kept R g plans fed t) (goes : t.state.aborted ≡ false) (c size : ℕ) (m : Meaning) (next : next_request (limits_of g) (seat_at t.state c) ≡ Some (size, m)) (x : RequestResult S) (count : ℕ) (count_is : count ≡ length (calls_of g.buckets m)) where
     abbrev seat : Seat
     seat = seat_at t.state c
 

@@ -13,7 +13,7 @@ use Rattle.sei_script.specs.declared.line.ScriptLine.{ScriptLine}
 use Rattle.sei_script.specs.declared.line.ScriptLine.TheVariants as lines
 use Rattle.sei_script.specs.declared.line.Context.{Context}
 use Rattle.sei_script.specs.Context.{geometry_of, context_after}
-use Rattle.sei_script.specs.Fit.{IsFit, AreFit}
+use Rattle.sei_script.specs.Fit.{IsWellPlaced, AreFit}
 use Rattle.sei_script.specs.SaysBytes.{SaysBytes}
 use Rattle.sei_main.specs.declared.plans.CallNumber.{CallNumber}
 use Rattle.sei_main.specs.Answering.{Answering}
@@ -147,7 +147,7 @@ module _ {S : Type 0} (answering : Answering S) (R : S → Server → Type 0) (g
   abbrev stepping : Stepping S
   stepping = step_by answering
 
-  led_keeps : (p : List ScriptLine) (t : ToldOf S) (x : Context) (line : ScriptLine) → SaysBytes line → length t.state.seats ≡ x.opens → IsFit x line → Kept R g plans (λ c. fed_to c p) t
+  led_keeps : (p : List ScriptLine) (t : ToldOf S) (x : Context) (line : ScriptLine) → SaysBytes line → length t.state.seats ≡ x.opens → IsWellPlaced x line → Kept R g plans (λ c. fed_to c p) t
       → Kept R g plans (λ c. fed_to c (p ++ line ∷ [])) (after_by stepping t line)
   unfolding led_by
   led_keeps p t x (lines.Geometry n) says e f k =

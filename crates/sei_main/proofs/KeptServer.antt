@@ -9,7 +9,7 @@ use Rattle.mc_model.specs.Bucket.{Bucket, empty_bucket}
 use Rattle.mc_model.specs.Call.{Placed, IsPlaced}
 use Rattle.mc_model.specs.Answer.{answer}
 use Rattle.mc_model.specs.Server.{Server, room_of, empty_server, bucket_at, server_answer}
-use Rattle.sei_main.specs.History.{Entry, led_through, state_after, IsAnswered, IsLegalBehind, IsLegal}
+use Rattle.sei_main.specs.History.{Entry, led_through, state_after, IsLegalEntry, IsLegalBehind, IsLegal}
 use Rattle.sei_main.specs.State.{entry_for}
 
 pub record ServerKept (g : Geometry) (server : Server) (history : List Entry) : Type 0 where
@@ -37,10 +37,10 @@ start_server g = record {
     empty_at (suc n) zero = refl
     empty_at (suc n) (suc b) = empty_at n b
 
-legal_push : (g : Geometry) (earlier entries : List Entry) (entry : Entry) → IsLegalBehind g earlier entries → IsAnswered g (earlier ++ entries) entry → IsLegalBehind g earlier (entries ++ entry ∷ [])
-legal_push g earlier [] entry h a = (subst (λ (es : List Entry). IsAnswered g es entry) (append-nil earlier) a, tt)
+legal_push : (g : Geometry) (earlier entries : List Entry) (entry : Entry) → IsLegalBehind g earlier entries → IsLegalEntry g (earlier ++ entries) entry → IsLegalBehind g earlier (entries ++ entry ∷ [])
+legal_push g earlier [] entry h a = (subst (λ (es : List Entry). IsLegalEntry g es entry) (append-nil earlier) a, tt)
 legal_push g earlier (x ∷ entries) entry h a =
-    (h.0, legal_push g (earlier ++ x ∷ []) entries entry h.1 (subst (λ (es : List Entry). IsAnswered g es entry) (sym (append_assoc earlier (x ∷ []) entries)) a))
+    (h.0, legal_push g (earlier ++ x ∷ []) entries entry h.1 (subst (λ (es : List Entry). IsLegalEntry g es entry) (sym (append_assoc earlier (x ∷ []) entries)) a))
 
 led_push : (room : Room) (b : ℕ) (bucket : Bucket) (entries : List Entry) (entry : Entry)
     → led_through room b bucket (entries ++ entry ∷ []) ≡ (if entry.bucket == b then (answer room (led_through room b bucket entries) entry.now entry.call).0 else led_through room b bucket entries)

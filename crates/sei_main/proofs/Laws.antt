@@ -25,7 +25,7 @@ use Rattle.sei_main.specs.Seats.{Seat, empty_seat, waiting}
 use Rattle.sei_main.specs.State.{State, limits_of, next_request, seat_at}
 use Rattle.sei_main.specs.TableAnswers.{table_answering}
 use Rattle.sei_main.specs.Tables.{fresh_tables}
-use Rattle.sei_main.specs.Run.{start, run_of, struck_run_of}
+use Rattle.sei_main.specs.Run.{plain_start, plain_run_of, run_of}
 use Rattle.sei_main.specs.Headline.{fed_to, script_limits, history_of, IsLegalRun, IsNumberedRun, SendsRepliesRun, NothingAfterAbortRun, OnlyStruckAbortsRun, AnswersAllRun}
 use Rattle.sei_main.proofs.Drained.{nothing_waits, drain_ends}
 use Rattle.sei_main.proofs.Kept.{Kept}
@@ -43,34 +43,34 @@ pub record IsRunnable (script : List ScriptLine) : Type 0 where
   pub valid : IsValid (geometry_of script)
   pub says : All SaysBytes script
 
-kept : (script : List ScriptLine) → IsRunnable script → Kept (AreServerOf (geometry_of script)) (geometry_of script) (plans_of script) (λ c. fed_to c script) (struck_run_of script)
+kept : (script : List ScriptLine) → IsRunnable script → Kept (AreServerOf (geometry_of script)) (geometry_of script) (plans_of script) (λ c. fed_to c script) (run_of script)
 kept script r =
     let g : Geometry = geometry_of script in
     run_keeps table_answering (AreServerOf g) (fresh_tables g) script empty_context (tables_isolate g r.valid) (asks_calls g r.valid) (omega (arith, r.valid.some_buckets)) (fresh_are_server g r.valid) r.says refl r.fit
 
 seat_stands : (script : List ScriptLine) → IsRunnable script → (c : ℕ)
-    → SeatStands (length (plans_of script)) (script_limits script) (fed_to c script) (own_entries c (history_of script)) (sent_to c (struck_run_of script).events) (seat_at (struck_run_of script).state c)
+    → SeatStands (length (plans_of script)) (script_limits script) (fed_to c script) (own_entries c (history_of script)) (sent_to c (run_of script).events) (seat_at (run_of script).state c)
 seat_stands script r c = (kept script r).seats c
 
 pub legal : (script : List ScriptLine) → IsRunnable script → IsLegalRun script
 legal script r = (kept script r).legal
 
 pub numbered : (script : List ScriptLine) → IsRunnable script → IsNumberedRun script
-numbered script r c = numbered_stands (length (plans_of script)) (script_limits script) (fed_to c script) _ _ (seat_at (struck_run_of script).state c) (seat_stands script r c)
+numbered script r c = numbered_stands (length (plans_of script)) (script_limits script) (fed_to c script) _ _ (seat_at (run_of script).state c) (seat_stands script r c)
 
 pub sent : (script : List ScriptLine) → IsRunnable script → SendsRepliesRun script
 sent script r c =
-    let s : SentStands (own_entries c (history_of script)) (sent_to c (struck_run_of script).events) (seat_at (struck_run_of script).state c) =
-    sent_stands (length (plans_of script)) (script_limits script) (fed_to c script) _ _ (seat_at (struck_run_of script).state c) (seat_stands script r c) in
+    let s : SentStands (own_entries c (history_of script)) (sent_to c (run_of script).events) (seat_at (run_of script).state c) =
+    sent_stands (length (plans_of script)) (script_limits script) (fed_to c script) _ _ (seat_at (run_of script).state c) (seat_stands script r c) in
     record { answered = s.answered; first = s.first; sent = s.sent_is; took = s.took }
 
 pub nothing_after_abort : (script : List ScriptLine) → IsRunnable script → NothingAfterAbortRun script
 nothing_after_abort script r =
     let k = kept script r in
-    record { told = by (struck_run_of script).state.aborted refl k; last = k.ends.last }
+    record { told = by (run_of script).state.aborted refl k; last = k.ends.last }
   where
-    by : (aborted : Bool) → (struck_run_of script).state.aborted ≡ aborted → Kept (AreServerOf (geometry_of script)) (geometry_of script) (plans_of script) (λ c. fed_to c script) (struck_run_of script)
-        → (struck_run_of script).state.aborted ≡ has_abort (struck_run_of script).events
+    by : (aborted : Bool) → (run_of script).state.aborted ≡ aborted → Kept (AreServerOf (geometry_of script)) (geometry_of script) (plans_of script) (λ c. fed_to c script) (run_of script)
+        → (run_of script).state.aborted ≡ has_abort (run_of script).events
     by true e k = e ∙ sym (k.told e)
     by false e k = e ∙ sym (k.goes e).none
 
@@ -98,13 +98,13 @@ all_answered script r quiet e c =
     let l : Limits = script_limits script in
     let fed : List ℕ = fed_to c script in
     let own : List Entry = own_entries c (history_of script) in
-    let seat : Seat = seat_at (struck_run_of script).state c in
-    let k : SeatKept l fed own (sent_to c (struck_run_of script).events) seat =
-    unstopped l fed own (sent_to c (struck_run_of script).events) seat
-    (subst (λ (plans : List (CallNumber × Planned)). SeatStands (length plans) l fed own (sent_to c (struck_run_of script).events) seat) (plans_nothing script quiet) (seat_stands script r c)) in
-    let plain : State = (run_of script).state in
+    let seat : Seat = seat_at (run_of script).state c in
+    let k : SeatKept l fed own (sent_to c (run_of script).events) seat =
+    unstopped l fed own (sent_to c (run_of script).events) seat
+    (subst (λ (plans : List (CallNumber × Planned)). SeatStands (length plans) l fed own (sent_to c (run_of script).events) seat) (plans_nothing script quiet) (seat_stands script r c)) in
+    let plain : State = (plain_run_of script).state in
     let p : RunIsPlain script = run_is_plain script r.valid r.says quiet in
-    let none : next_request (limits_of plain.geometry) (seat_at plain c) ≡ None = nothing_waits plain (none_empty (limits_of plain.geometry)) (drain_ends (start script) script e) c in
+    let none : next_request (limits_of plain.geometry) (seat_at plain c) ≡ None = nothing_waits plain (none_empty (limits_of plain.geometry)) (drain_ends (plain_start script) script e) c in
     let here : next_request l seat ≡ None =
     ap (λ (seats : List Seat). next_request l (slice_index_or seats c empty_seat)) p.seats ∙ ap (λ (g : Geometry). next_request (limits_of g) (seat_at plain c)) (sym p.geometry) ∙ none in
     let nothing : (if seat.closed then [] else up_to_end (requests l (waiting seat))) ≡ [] = ended l seat seat.closed here in

@@ -20,9 +20,6 @@ none_front l bytes (Some p) h e = absurd (h p.0 p.1 (front_reads l bytes p.0 p.1
 at_open : (l : Limits) (seat : Seat) → false ≡ seat.closed → next_request l seat ≡ front l (waiting seat)
 at_open l seat e = sym (ap (λ (b : Bool). if b then None else front l (waiting seat)) e)
 
-pub next_closed : (l : Limits) (seat : Seat) → true ≡ seat.closed → next_request l seat ≡ None
-next_closed l seat e = sym (ap (λ (b : Bool). if b then None else front l (waiting seat)) e)
-
 pub next_more : (l : Limits) (seat : Seat) (bytes : List ℕ) → bytes ≡ waiting seat → false ≡ seat.closed → IsMore l bytes → next_request l seat ≡ None
 next_more l seat bytes e c m = at_open l seat c ∙ none_front l (waiting seat) (front l (waiting seat)) (subst (λ (bs : List ℕ). (k : ℕ) (n : Meaning) → Begins l bs k n → ⊥) e m.none) refl
 

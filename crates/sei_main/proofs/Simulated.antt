@@ -29,7 +29,7 @@ use Rattle.sei_main.specs.Plans.{plans_from}
 use Rattle.sei_main.specs.Quiet.{is_quiet, is_quiet_line}
 use Rattle.sei_main.specs.Seats.{Seat, empty_seat, waiting, fed_more, taken_more}
 use Rattle.sei_main.specs.State.{State, Told, Went, StateOf, ToldOf, WentOf, answers, takes_request, step_front, step, entry_for, entry_events, limits_of, next_request, bytes_waiting, idle, behind, seat_at, fed, round_from_by, round_by, rounds_by, led_by}
-use Rattle.sei_main.specs.Serving.{Asking, AnswersOf, asking_at, asked_in, served_events, sent_events, seat_for, closing_events, is_abort, on_with, answer_in, answers_by, takes_request_by, step_front_by, step_by}
+use Rattle.sei_main.specs.Serving.{Asking, RequestResult, asking_at, asked_in, served_events, sent_events, seat_for, closing_events, is_abort, on_with, answer_in, answers_by, takes_request_by, step_front_by, step_by}
 use Rattle.sei_main.specs.Run.{start_of, after_by, run_from_by, run_by}
 use Rattle.sei_main.specs.Report.{events_text, seats_text, closing_text, report_of}
 use Rattle.sei_main.proofs.Answering.{entries_answered}
@@ -79,7 +79,7 @@ pub plain_events : (now c n : ℕ) (p : Placed) (reply : List ℕ) (strikes : �
 plain_events now c n p reply strikes = ap (λ (es : List Event). Entered (entry_for now c n p reply) ∷ es) (append-nil (sent_events c reply))
 
 -- calls that were answered alike
-pub record AnswersAlike {S : Type 0} (R : S → Server → Type 0) (messages : ℕ) (x : AnswersOf S) (y : Server × List Event) : Type 0 where
+pub record AnswersAlike {S : Type 0} (R : S → Server → Type 0) (messages : ℕ) (x : RequestResult S) (y : Server × List Event) : Type 0 where
   pub server : R x.server y.0
   pub events : x.events ≡ y.1
   pub messages_are : x.messages ≡ messages + length (messages_of (entries_of y.1))
@@ -102,14 +102,14 @@ module _ {S : Type 0} (answering : Answering S) (g : Geometry) (R : S → Server
       let none : a.plan ≡ None = ap (λ (plans : List (CallNumber × Planned)). (asked_in (record q { plans = plans }) nth messages p).plan) quiet in
       let there : IsAsThere R t a (answering s a) = unplanned R t a (answering s a) (isolates s t a is r) none in
       let reply : List ℕ = (server_answer t q.now p).1 in
-      let here : AnswersOf S = answer_in answering q nth messages s p in
+      let here : RequestResult S = answer_in answering q nth messages s p in
       let served : (answering s a).served ≡ plain_served q.now reply = there.same in
       let strikes : ℕ = (answering s a).strikes in
       let happened : here.events ≡ entry_events (entry_for q.now q.connection number p reply) =
       ap (λ (x : Served). served_events q.connection (q.first + nth) p x strikes) served ∙ plain_events q.now q.connection (q.first + nth) p reply strikes ∙ ap (λ (m : ℕ). entry_events (entry_for q.now q.connection m p reply)) (sym n) in
       let rest = answers_alike q (nth + 1) here.messages (number + 1) here.server (server_answer t q.now p).0 ps small quiet bytes one
       (λ k d e. let next : nth + suc k ≡ nth + 1 + k = omega arith in subst (λ (j : ℕ). IsCallAt (limits_of g) q.text j d) next (calls (suc k) d e)) there.server in
-      let later : AnswersOf S = answers_by answering q (nth + 1) here.messages here.server ps in
+      let later : RequestResult S = answers_by answering q (nth + 1) here.messages here.server ps in
       let later_there = answers q.now q.connection (number + 1) (server_answer t q.now p).0 ps in
       let goes : here.state ≡ Finished = ap (λ (x : Served). x.state) served in
       let sent : here.messages ≡ messages + length (message_of reply) = ap (λ (x : Served). messages + length (message_of x.message)) served in

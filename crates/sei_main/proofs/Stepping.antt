@@ -12,7 +12,7 @@ use Rattle.sei_main.specs.Events.{Event, entries_of}
 use Rattle.sei_main.specs.Seats.{Seat, waiting, taken_more}
 use Rattle.sei_main.specs.State.{StateOf, State, answers, step, step_front, idle, next_request, limits_of, seat_at}
 use Rattle.sei_main.specs.Answering.{Answering}
-use Rattle.sei_main.specs.Serving.{AnswersOf, asking_at, answers_by, seat_for, step_front_by, step_by}
+use Rattle.sei_main.specs.Serving.{RequestResult, asking_at, answers_by, seat_for, step_front_by, step_by}
 use Rattle.sei_main.proofs.Rounds.{Goes, IsStepping, IsWithin, next_within, weight, fewer_wait, open_weight, shorter}
 
 front_size : (s : State) (c : ℕ) (seat : Seat) (o : Option (ℕ × Meaning)) → length (step_front s c seat o).state.seats ≡ length s.seats
@@ -56,7 +56,7 @@ module _ {S : Type 0} (answering : Answering S) where
       let seat : Seat = seat_at s c in
       let w : IsWithin seat request.0 = next_within (limits_of s.geometry) seat request.0 request.1 e in
       let calls : List Placed = calls_of s.geometry.buckets request.1 in
-      let a : AnswersOf S = answers_by answering (asking_at s.clock s.plans c seat request.0) 0 0 s.server calls in
+      let a : RequestResult S = answers_by answering (asking_at s.clock s.plans c seat request.0) 0 0 s.server calls in
       inl (
         refl,
         fewer_wait s.seats c (seat_for a.state seat request.0 (length calls) a.messages (ends_connection request.1))

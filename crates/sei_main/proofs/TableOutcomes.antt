@@ -9,13 +9,13 @@ use Rattle.sei_traverse.specs.declared.turned.State.{State}
 use Rattle.sei_traverse.specs.declared.turned.State.TheVariants.{Went, Finished, Refused, Aborted}
 use Rattle.sei_main.specs.declared.world.service.Entered.{Entered}
 use Rattle.sei_main.specs.declared.world.service.Served.{Served}
-use Rattle.sei_main.specs.Answering.{Asked, AnswerOf}
+use Rattle.sei_main.specs.Answering.{Asked, CallResult}
 use Rattle.sei_main.specs.Course.{course_of}
 use Rattle.sei_main.specs.TableAnswers.{sealed_for, table_answering}
 use Rattle.sei_main.specs.Tables.{Tables, AreServer}
 use Rattle.sei_main.proofs.CourseLaws.{ended, finishes_right, enters_right, sends_right, aborts_struck, refuses_struck, struck_planned}
-use Rattle.sei_main.specs.Outcomes.{Outcome, IsAsThere, IsHarmless, IsStruck, reply, entry}
-use Rattle.sei_main.specs.Outcomes.Outcome.{AsThere, TurnedAway, Stopped}
+use Rattle.sei_main.specs.Outcomes.{CallOutcome, IsAsThere, IsHarmless, PlannedFaultStruck, reply, entry}
+use Rattle.sei_main.specs.Outcomes.CallOutcome.{AsThere, TurnedAway, Stopped}
 use Rattle.sei_main.specs.Tables.{AreServerOf}
 
 -- what became of a call, by its parts
@@ -26,7 +26,7 @@ served_is s entered message state a b d =
     ∙ ap (λ (x : State). let r : Served = record { entered = entered; message = message; state = x } in r) d
 
 module _ (t : Tables) (s : Server) (are : AreServer t s) (a : Asked) (bytes : AreBytes a.text) (small : a.now < 2 ^ 64) (call : call_in (limits_of t.geometry) a.text a.nth ≡ Some a.placed) where
-  abbrev x : AnswerOf Tables
+  abbrev x : CallResult Tables
   x = table_answering t a
 
   abbrev T : Tables → Server → Type 0
@@ -47,10 +47,10 @@ module _ (t : Tables) (s : Server) (are : AreServer t s) (a : Asked) (bytes : Ar
         server = record { geometry = refl; are = plain.server };
       }
 
-  struck_by : fallen (course_of t.geometry a.text a.now t.buckets (sealed_for a.text a.nth a.numbers) a.plan).core.stage ≡ 1 → IsStruck T s a x
+  struck_by : fallen (course_of t.geometry a.text a.now t.buckets (sealed_for a.text a.nth a.numbers) a.plan).core.stage ≡ 1 → PlannedFaultStruck T s a x
   struck_by e = record { struck = omega (arith, e); planned = struck_planned t.geometry are.valid a.text bytes a.now small t.buckets s are a.nth a.placed call a.numbers a.plan e }
 
-  by_state : (state : State) → x.served.state ≡ state → Outcome T s a x
+  by_state : (state : State) → x.served.state ≡ state → CallOutcome T s a x
   by_state Went e = absurd (ended t.geometry are.valid a.text bytes a.now small t.buckets s are a.nth a.placed call a.numbers a.plan e)
   by_state Finished e = AsThere (as_there e)
   by_state Refused e =
@@ -62,5 +62,5 @@ module _ (t : Tables) (s : Server) (are : AreServer t s) (a : Asked) (bytes : Ar
       Stopped abort e harmless (struck_by (aborts_struck t.geometry are.valid a.text bytes a.now small t.buckets s are a.nth a.placed call a.numbers a.plan abort e))
 
   -- each call has one of the outcomes
-  pub outcome : Outcome T s a x
+  pub outcome : CallOutcome T s a x
   outcome = by_state x.served.state refl

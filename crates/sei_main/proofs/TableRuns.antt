@@ -12,11 +12,11 @@ use Rattle.sei_main.specs.Quiet.{is_quiet}
 use Rattle.sei_main.specs.State.{limits_of}
 use Rattle.sei_hand.specs.Requests.{limits_of as call_limits, call_in}
 use Rattle.sei_main.specs.Answering.{Asked}
-use Rattle.sei_main.specs.Run.{run_of, struck_run_of}
+use Rattle.sei_main.specs.Run.{plain_run_of, run_of}
 use Rattle.sei_main.specs.Tables.{Tables, fresh_tables}
 use Rattle.sei_main.specs.TableAnswers.{table_answering}
 use Rattle.sei_main.proofs.SeatBytes.{next_text}
-use Rattle.sei_main.specs.Outcomes.{IsAskedOf, IsolatesFaults, Outcome}
+use Rattle.sei_main.specs.Outcomes.{IsAskedOf, IsolatesFaults, CallOutcome}
 use Rattle.sei_main.proofs.Outcomes.{AsksCalls}
 use Rattle.sei_main.proofs.Simulated.{run_same, report_same}
 use Rattle.sei_main.specs.Tables.{AreServerOf}
@@ -37,14 +37,14 @@ there g valid s t a asked r = (asked_of g s.geometry a.text a.nth a.placed (sym 
 -- words have one of the outcomes for each call
 pub tables_isolate : (g : Geometry) → IsValid g → IsolatesFaults table_answering g (AreServerOf g)
 tables_isolate g valid s t a asked r =
-    subst (λ (y : Geometry). Outcome (AreServerOf y) t a (table_answering s a)) r.geometry (outcome s t r.are a asked.bytes asked.small (there g valid s t a asked r))
+    subst (λ (y : Geometry). CallOutcome (AreServerOf y) t a (table_answering s a)) r.geometry (outcome s t r.are a asked.bytes asked.small (there g valid s t a asked r))
 
 -- the run of a quiet script has the same events as that of the plain server, and leaves the same connections
 pub record RunIsPlain (script : List ScriptLine) : Type 0 where
-  pub goes : (struck_run_of script).state.aborted ≡ false
-  pub geometry : (run_of script).state.geometry ≡ geometry_of script
-  pub seats : (struck_run_of script).state.seats ≡ (run_of script).state.seats
-  pub events : (struck_run_of script).events ≡ (run_of script).events
+  pub goes : (run_of script).state.aborted ≡ false
+  pub geometry : (plain_run_of script).state.geometry ≡ geometry_of script
+  pub seats : (run_of script).state.seats ≡ (plain_run_of script).state.seats
+  pub events : (run_of script).events ≡ (plain_run_of script).events
 
 pub run_is_plain : (script : List ScriptLine) → IsValid (geometry_of script) → All SaysBytes script → is_quiet script ≡ true → RunIsPlain script
 run_is_plain script valid says quiet =

@@ -14,8 +14,8 @@ use Rattle.sei_main.specs.declared.world.state.Answered.{Answered}
 use Rattle.sei_main.specs.declared.world.state.Asking.{Asking as AskingOf}
 use Rattle.sei_main.specs.Answering.{Answering}
 use Rattle.sei_main.specs.Seats.{Seat, waiting}
-use Rattle.sei_main.specs.Serving.{AnswersOf, answers_by, closing_events}
-use Rattle.sei_main.specs.Becomes.{IsNextOf, IsAnswered, asking_of, answers_to, closes_behind, events_to}
+use Rattle.sei_main.specs.Serving.{RequestResult, answers_by, closing_events}
+use Rattle.sei_main.specs.Becomes.{IsNextOf, IsResultOf, asking_of, answers_to, closes_behind, events_to}
 use Rattle.sei_script.specs.ReportLines.{closing_line_text}
 use Rattle.sei_main.specs.Report.{events_text}
 use Rattle.sei_main.proofs.Written.{events_append}
@@ -23,19 +23,15 @@ use Rattle.sei_main.proofs.CallTexts.{finished_text}
 use Rattle.sei_main.proofs.Calls.{few_calls}
 use Rattle.sei_main.proofs.Rounds.{IsWithin, next_within}
 
--- the connection is open
-pub next_open : (l : Limits) (seat : Seat) (size : ℕ) (request : Request) → IsNextOf l seat size request → seat.closed ≡ false
-next_open l seat size request n = (next_within l seat size (meaning_at (take size (waiting seat)) request) n.next).opened
-
 module _ {S : Type 0} (answering : Answering S) (now : ℕ) (plans : List (CallNumber × Planned)) (h : Bool) (c : ℕ) (server : S) (seat : Seat) (size : ℕ) (request : Request)
     (bytes : List ℕ) (first requests sent : ℕ) (b : bytes ≡ waiting seat) (f : first ≡ seat.entered) (r : requests ≡ seat.requests) (s : sent ≡ seat.sent) where
   abbrev asking : ℕ → ℕ → ℕ → AskingOf
   asking x y z = record { now = now; connection = c; first = x; numbers = record { request = y; reply = z } }
 
-  abbrev read : AnswersOf S
+  abbrev read : RequestResult S
   read = answers_by answering (asking_of (asking first requests sent) (take size bytes) plans) 0 0 server (calls_at (take size bytes) request)
 
-  abbrev told : AnswersOf S
+  abbrev told : RequestResult S
   told = answers_to answering now plans c server seat size request
 
   -- the answers to a request in bytes that were read, with numbers that were read, are those to the request
@@ -50,21 +46,18 @@ module _ {S : Type 0} (answering : Answering S) (now : ℕ) (plans : List (CallN
   answers_part old new w =
       subst (λ (t : List ℕ). WrotePart old new t) (sym (events_append h told.events (closing_events told.state c (closes_behind seat size request))))
       (wrote_first old new (events_text h told.events) (events_text h (closing_events told.state c (closes_behind seat size request)))
-      (subst (λ (x : AnswersOf S). WrotePart old new (events_text h x.events)) answers_read w))
+      (subst (λ (x : RequestResult S). WrotePart old new (events_text h x.events)) answers_read w))
 
-  module _ (answered : Answered) (is : IsAnswered answered read) where
+  module _ (answered : Answered) (is : IsResultOf answered read) where
     pub state_told : answered.state ≡ told.state
-    state_told = is.state ∙ ap (λ (x : AnswersOf S). x.state) answers_read
-
-    pub messages_told : answered.messages ≡ told.messages
-    messages_told = is.messages ∙ ap (λ (x : AnswersOf S). x.messages) answers_read
+    state_told = is.state ∙ ap (λ (x : RequestResult S). x.state) answers_read
 
     module _ (finished : answered.state ≡ Finished) (closes : Bool) (k : closes ≡ closes_behind seat size request) (old mid new : Option (List ℕ)) (p : mid ≡ append_known old (events_text h read.events)) where
       text_told : events_text h (events_to answering now plans c server seat size request) ≡ events_text h told.events ++ closing_line_text c (closes_behind seat size request)
       text_told = finished_text h told.events told.state c (closes_behind seat size request) (sym state_told ∙ finished)
 
       mid_told : mid ≡ append_known old (events_text h told.events)
-      mid_told = p ∙ ap (λ (x : AnswersOf S). append_known old (events_text h x.events)) answers_read
+      mid_told = p ∙ ap (λ (x : RequestResult S). append_known old (events_text h x.events)) answers_read
 
       pub closing_part : WrotePart mid new (closing_line_text c closes) → WrotePart old new (events_text h (events_to answering now plans c server seat size request))
       closing_part w =

@@ -21,7 +21,7 @@ use Rattle.sei_traverse.specs.declared.turned.Want.TheVariants.{Nothing, Take, E
 use Rattle.sei_traverse.specs.declared.walk.Walk.{Walk}
 use Rattle.sei_traverse.specs.Bounds.{most_steps, StepsWithin, StepsAfter}
 use Rattle.sei_traverse.specs.Service.{given_of}
-use Rattle.sei_traverse.specs.State.{TraversalState, IsTraversal, begun, one_more, goes_on}
+use Rattle.sei_traverse.specs.State.{TraversalState, IsTraversal, begun_traversal, one_more, is_running}
 use Rattle.sei_traverse.specs.Step.{Turn, turn, turn_tree, TimedTwice}
 use Rattle.sei_traverse.proofs.StepsBound.{steps_bounded, begun_within}
 use Rattle.sei_main.specs.declared.world.service.Served.{Served}
@@ -130,36 +130,19 @@ abbrev pub course_at : TraversalState → List BucketWords → Option ℕ → Sc
 course_at t buckets lent core served = record { walk = t.walk; buckets = buckets; lent = lent; core = core; served = served }
 
 -- behind k of so many steps it goes on, and what is left of its steps leads where all of them lead from its begin
-pub record Underway (g : Geometry) (text : List ℕ) (now limit : ℕ) (begun : Course) (k : ℕ) (t : TraversalState) (buckets : List BucketWords) (lent : Option ℕ) (core : ScriptState) (served : Served) : Type 0 where
-  pub rest : course_from g text now (limit - k) (course_at t buckets lent core served) ≡ course_from g text now limit begun
+pub record Underway (g : Geometry) (text : List ℕ) (now limit : ℕ) (begun_traversal : Course) (k : ℕ) (t : TraversalState) (buckets : List BucketWords) (lent : Option ℕ) (core : ScriptState) (served : Served) : Type 0 where
+  pub rest : course_from g text now (limit - k) (course_at t buckets lent core served) ≡ course_from g text now limit begun_traversal
   pub going : served.state ≡ Went
   pub running : t.running ≡ true
   pub geometry : t.geometry ≡ g
-  pub sealed : t.walk.sealed ≡ begun.walk.sealed
+  pub sealed : t.walk.sealed ≡ begun_traversal.walk.sealed
   pub laid_out : All (IsOfGeometry g) buckets
   pub steps : t.steps ≡ k
   pub rooms : 0 < k → IsTraversal t
-  pub within : StepsWithin t (script_counts begun.core) (script_counts core)
+  pub within : StepsWithin t (script_counts begun_traversal.core) (script_counts core)
 
--- it begins
-pub begins : (g : Geometry) (text : List ℕ) (now limit : ℕ) (buckets : List BucketWords) (sealed : Sealed) (plan : Option Planned) (t : TraversalState) → t ≡ begun g sealed → All (IsOfGeometry g) buckets →
-    Underway g text now limit (course_begun g buckets sealed plan) 0 t buckets None (script_begin plan) unserved
-begins g text now limit buckets sealed plan t e all =
-    subst (λ (x : TraversalState). Underway g text now limit (course_begun g buckets sealed plan) 0 x buckets None (script_begin plan) unserved) (sym e)
-    (record {
-      rest = let all_left : limit - 0 ≡ limit = omega arith in ap (λ (n : ℕ). course_from g text now n (course_begun g buckets sealed plan)) all_left;
-      going = refl;
-      running = refl;
-      geometry = refl;
-      sealed = refl;
-      laid_out = all;
-      steps = refl;
-      rooms = λ h. absurd (omega (arith, h));
-      within = begun_within g sealed (script_counts (script_begin plan));
-    })
-
-module _ (g : Geometry) (text : List ℕ) (now limit : ℕ) (begun : Course) (k : ℕ) (old new : TraversalState) (before after : List BucketWords) (lent : Option ℕ) (core later : ScriptState) (served : Served) (t : Turned)
-    (u : Underway g text now limit begun k old before lent core served) (st : IsTurn g text now lent old new before after core later t) (lt : k < limit) where
+module _ (g : Geometry) (text : List ℕ) (now limit : ℕ) (begun_traversal : Course) (k : ℕ) (old new : TraversalState) (before after : List BucketWords) (lent : Option ℕ) (core later : ScriptState) (served : Served) (t : Turned)
+    (u : Underway g text now limit begun_traversal k old before lent core served) (st : IsTurn g text now lent old new before after core later t) (lt : k < limit) where
   abbrev next : Course
   next = course_at new after (lent_behind t.want lent) later (served_behind t.want new.walk served t.state)
 
@@ -171,7 +154,7 @@ module _ (g : Geometry) (text : List ℕ) (now limit : ℕ) (begun : Course) (k 
       ∙ ap (λ (b : List BucketWords). record { walk = new.walk; buckets = b; lent = lent_behind new.walk.want lent; core = later; served = served_behind new.walk.want new.walk served t.state }) (sym st.buckets)
       ∙ ap (λ (x : Want). course_at new after (lent_behind x lent) later (served_behind x new.walk served t.state)) (sym st.want)
 
-  pub onward : course_from g text now (limit - (k + 1)) next ≡ course_from g text now limit begun
+  pub onward : course_from g text now (limit - (k + 1)) next ≡ course_from g text now limit begun_traversal
   onward =
       let one : limit - k ≡ suc (limit - (k + 1)) = omega (arith, lt) in
       let c : Course = course_at old before lent core served in
@@ -179,23 +162,23 @@ module _ (g : Geometry) (text : List ℕ) (now limit : ℕ) (begun : Course) (k 
       ∙ sym (ap (λ (n : ℕ). course_from g text now n c) one) ∙ u.rest
 
   -- behind a step that does not go on
-  pub ended : (t.state ≡ Went → ⊥) → (state : State) → (served_behind t.want new.walk served t.state).state ≡ state → state ≡ t.state → next ≡ course_from g text now limit begun
+  pub ended : (t.state ≡ Went → ⊥) → (state : State) → (served_behind t.want new.walk served t.state).state ≡ state → state ≡ t.state → next ≡ course_from g text now limit begun_traversal
   ended h state e f = sym (ended_stays g text now (limit - (k + 1)) next (λ w. h (sym (e ∙ f) ∙ w))) ∙ onward
 
   pub goes : k + 1 < 2 ^ 64 → t.state ≡ Went → (new_served : Served) → new_served ≡ served_behind t.want new.walk served t.state → new_served.state ≡ t.state → (new_lent : Option ℕ) → new_lent ≡ lent_behind t.want lent →
-      All (IsOfGeometry g) after → Underway g text now limit begun (k + 1) new after new_lent later new_served
+      All (IsOfGeometry g) after → Underway g text now limit begun_traversal (k + 1) new after new_lent later new_served
   goes small went new_served s same new_lent l all = record {
     rest = ap (λ (x : Served). course_from g text now (limit - (k + 1)) (course_at new after new_lent later x)) s
         ∙ ap (λ (x : Option ℕ). course_from g text now (limit - (k + 1)) (course_at new after x later (served_behind t.want new.walk served t.state))) l
         ∙ onward;
     going = same ∙ went;
-    running = st.running ∙ ap goes_on went;
+    running = st.running ∙ ap is_running went;
     geometry = st.geometry ∙ u.geometry;
     sealed = st.sealed ∙ u.sealed;
     laid_out = all;
     steps = st.steps ∙ ap one_more u.steps ∙ omega (arith, small);
     rooms = λ h. st.rooms;
-    within = subst (λ (s : State). StepsAfter new (script_counts begun.core) (script_counts later) s) went (st.within (script_counts begun.core) u.within);
+    within = subst (λ (s : State). StepsAfter new (script_counts begun_traversal.core) (script_counts later) s) went (st.within (script_counts begun_traversal.core) u.within);
   }
 
 pub not_ended : (state : State) → is_ended state ≡ true → state ≡ Went → ⊥
@@ -217,17 +200,3 @@ state_behind want w s state = by want
     by Enter = refl
     by Give = refl
     by Send = refl
-
--- one strike falls at most
-one_falls : (s : Stage) → fallen s ≤ 1
-one_falls stage.Waiting = omega arith
-one_falls (stage.Armed n) = omega arith
-one_falls stage.Struck = omega arith
-one_falls stage.Over = omega arith
-
--- it is nowhere behind the most steps
-pub never_on : (g : Geometry) (text : List ℕ) (now limit : ℕ) (begun : Course) (k : ℕ) (t : TraversalState) (buckets : List BucketWords) (lent : Option ℕ) (core : ScriptState) (served : Served) →
-    Underway g text now limit begun k t buckets lent core served → limit ≡ most_steps g + 1 → limit ≤ k → ⊥
-never_on g text now limit begun k t buckets lent core served u is all =
-    let bound = steps_bounded t (script_counts begun.core) (script_counts core) (u.rooms (omega (arith, is, all))) u.within (omega (arith, one_falls core.stage)) in
-    omega (arith, bound, ap most_steps u.geometry, u.steps, is, all)

@@ -19,13 +19,13 @@ abbrev pub asked : ℕ → List ℕ → ℕ → Placed → Numbers → Option Pl
 asked now text nth placed numbers plan = record { now = now; text = text; nth = nth; placed = placed; numbers = numbers; plan = plan }
 
 -- the server behind a call, what became of the call, and how many strikes fell in its traversal
-pub record AnswerOf (S : Type 0) : Type 0 where
+pub record CallResult (S : Type 0) : Type 0 where
   pub server : S
   pub served : Served
   pub strikes : ℕ
 
 abbrev pub Answering : Type 0 → Type 0
-Answering S = S → Asked → AnswerOf S
+Answering S = S → Asked → CallResult S
 
 -- a call that is entered at a time, its reply sent, and finished
 abbrev pub plain_served : ℕ → List ℕ → Served

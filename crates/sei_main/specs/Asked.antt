@@ -1,4 +1,4 @@
--- What a server is asked.
+-- Which call a server is asked.
 use Rattle.std.specs.Prelude.{◌≡◌, ℕ, ◌<◌, List, Some, slice_get}
 use Rattle.mc_model.specs.Call.{Placed}
 use Rattle.mc_text.specs.declared.limits.Limits.{Limits}

@@ -14,7 +14,7 @@ use Rattle.sei_main.specs.Events.{Event}
 use Rattle.sei_main.specs.State.{StateOf, WentOf, next_request}
 use Rattle.sei_main.specs.declared.world.state.Asking.{Asking as AskingOf}
 use Rattle.sei_main.specs.declared.world.state.Answered.{Answered}
-use Rattle.sei_main.specs.Serving.{Asking, AnswersOf, asking_at, answers_by, closing_events, seat_for}
+use Rattle.sei_main.specs.Serving.{Asking, RequestResult, asking_at, answers_by, closing_events, seat_for}
 
 pub record Becomes {S : Type 0} (new : StateOf S) (went : Bool) (w : WentOf S) : Type 0 where
   pub state : new ≡ w.state
@@ -38,13 +38,13 @@ abbrev pub asking_of : AskingOf → List ℕ → List (CallNumber × Planned) �
 asking_of q text plans = record { now = q.now; connection = q.connection; first = q.first; text = text; numbers = q.numbers; plans = plans }
 
 -- what the code tells of calls that were answered
-pub record IsAnswered {S : Type 0} (answered : Answered) (a : AnswersOf S) : Type 0 where
+pub record IsResultOf {S : Type 0} (answered : Answered) (a : RequestResult S) : Type 0 where
   pub messages : answered.messages ≡ a.messages
   pub state : answered.state ≡ a.state
 
 module _ {S : Type 0} (answering : Answering S) where
   -- what becomes of the calls of a request in the first bytes that wait
-  abbrev pub answers_to : ℕ → List (CallNumber × Planned) → ℕ → S → Seat → ℕ → Request → AnswersOf S
+  abbrev pub answers_to : ℕ → List (CallNumber × Planned) → ℕ → S → Seat → ℕ → Request → RequestResult S
   answers_to now plans c server seat size request = answers_by answering (asking_at now plans c seat size) 0 0 server (calls_at (take size (waiting seat)) request)
 
   -- what happens then

@@ -1,4 +1,4 @@
--- What the traversal of a call is to do, and one of its steps.
+-- What the traversal of a call is to do.
 use Rattle.std.specs.Prelude.{ℕ, ◌*◌, List, Some}
 use Rattle.mc_model.specs.declared.geometry.Geometry.{Geometry}
 use Rattle.mc_model.specs.Call.{Placed}

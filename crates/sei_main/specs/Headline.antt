@@ -13,7 +13,7 @@ use Rattle.sei_main.specs.Events.{entries_of, sent_to}
 use Rattle.sei_main.specs.Ends.{has_abort, NothingAfterAbort, IsOfStruck}
 use Rattle.sei_main.specs.Seats.{waiting}
 use Rattle.sei_main.specs.State.{limits_of, seat_at}
-use Rattle.sei_main.specs.Run.{run_of, struck_run_of}
+use Rattle.sei_main.specs.Run.{plain_run_of, run_of}
 use Rattle.sei_main.specs.Report.{report_of}
 
 abbrev pub fed_by : ℕ → ScriptLine → List ℕ
@@ -37,7 +37,7 @@ script_limits script = limits_of (geometry_of script)
 
 -- its history
 abbrev pub history_of : List ScriptLine → List Entry
-history_of script = entries_of (struck_run_of script).events
+history_of script = entries_of (run_of script).events
 
 abbrev pub IsLegalRun : List ScriptLine → Type 0
 IsLegalRun script = IsLegal (geometry_of script) (history_of script)
@@ -49,20 +49,20 @@ IsNumberedRun script = (c : ℕ) → IsNumbered (script_limits script) (fed_to c
 pub record SendsReplies (script : List ScriptLine) (c : ℕ) : Type 0 where
   pub answered : List Entry
   pub first : IsPrefixOf answered (own_entries c (history_of script))
-  pub sent : sent_to c (struck_run_of script).events ≡ messages_of answered
-  pub took : (seat_at (struck_run_of script).state c).sent ≡ length (accepted_of (sent_to c (struck_run_of script).events))
+  pub sent : sent_to c (run_of script).events ≡ messages_of answered
+  pub took : (seat_at (run_of script).state c).sent ≡ length (accepted_of (sent_to c (run_of script).events))
 
 abbrev pub SendsRepliesRun : List ScriptLine → Type 0
 SendsRepliesRun script = (c : ℕ) → SendsReplies script c
 
 -- the run has an abort exactly where an event is one, and no event stands behind it
 pub record NothingAfterAbortRun (script : List ScriptLine) : Type 0 where
-  pub told : (struck_run_of script).state.aborted ≡ has_abort (struck_run_of script).events
-  pub last : NothingAfterAbort (struck_run_of script).events
+  pub told : (run_of script).state.aborted ≡ has_abort (run_of script).events
+  pub last : NothingAfterAbort (run_of script).events
 
 -- only what was struck is refused or aborted
 abbrev pub OnlyStruckAbortsRun : List ScriptLine → Type 0
-OnlyStruckAbortsRun script = All IsOfStruck (struck_run_of script).events
+OnlyStruckAbortsRun script = All IsOfStruck (run_of script).events
 
 -- a fault is planned
 abbrev pub PlansFault : List ScriptLine → Type 0
@@ -74,15 +74,15 @@ WhenQuiet P script = is_quiet script ≡ true → P script
 
 -- the run is that of the plain server: it has no abort, the same events, and the same report
 pub record IsPlain (history : Bool) (script : List ScriptLine) : Type 0 where
-  pub goes : (struck_run_of script).state.aborted ≡ false
-  pub events : (struck_run_of script).events ≡ (run_of script).events
-  pub report : report_of history (struck_run_of script) ≡ report_of history (run_of script)
+  pub goes : (run_of script).state.aborted ≡ false
+  pub events : (run_of script).events ≡ (plain_run_of script).events
+  pub report : report_of history (run_of script) ≡ report_of history (plain_run_of script)
 
 -- every call of connection c was answered, every reply was sent, and what waits is what no request of it took
 pub record AnswersAll (script : List ScriptLine) (c : ℕ) : Type 0 where
   pub calls : calls_in (own_entries c (history_of script)) ≡ own_calls (script_limits script) (fed_to c script)
-  pub messages : sent_to c (struck_run_of script).events ≡ messages_of (own_entries c (history_of script))
-  pub left : Takes (script_limits script) (fed_to c script) (own_requests (script_limits script) (fed_to c script)) (waiting (seat_at (struck_run_of script).state c))
+  pub messages : sent_to c (run_of script).events ≡ messages_of (own_entries c (history_of script))
+  pub left : Takes (script_limits script) (fed_to c script) (own_requests (script_limits script) (fed_to c script)) (waiting (seat_at (run_of script).state c))
 
 abbrev pub AnswersAllRun : List ScriptLine → Type 0
 AnswersAllRun script = is_quiet script ≡ true → ends_in_drain script ≡ true → (c : ℕ) → AnswersAll script c

@@ -30,13 +30,13 @@ abbrev pub state_after : Room → ℕ → List Entry → Bucket
 state_after room b history = led_through room b empty_bucket history
 
 -- an entry behind others: it stands at its call's bucket, and has the reply that this bucket gives after them
-pub record IsAnswered (geometry : Geometry) (earlier : List Entry) (entry : Entry) : Type 0 where
+pub record IsLegalEntry (geometry : Geometry) (earlier : List Entry) (entry : Entry) : Type 0 where
   pub placed : IsPlaced geometry.buckets (placed_in entry)
   pub reply : entry.reply ≡ (answer (room_of geometry) (state_after (room_of geometry) entry.bucket earlier) entry.now entry.call).1
 
 abbrev pub IsLegalBehind : Geometry → List Entry → List Entry → Type 0
 IsLegalBehind geometry earlier [] = ⊤
-IsLegalBehind geometry earlier (entry ∷ entries) = IsAnswered geometry earlier entry × IsLegalBehind geometry (earlier ++ entry ∷ []) entries
+IsLegalBehind geometry earlier (entry ∷ entries) = IsLegalEntry geometry earlier entry × IsLegalBehind geometry (earlier ++ entry ∷ []) entries
 
 abbrev pub IsLegal : Geometry → List Entry → Type 0
 IsLegal geometry history = IsLegalBehind geometry [] history

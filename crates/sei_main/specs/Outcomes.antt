@@ -7,7 +7,7 @@ use Rattle.sei_traverse.specs.declared.turned.Abort.{Abort}
 use Rattle.sei_traverse.specs.declared.turned.State.TheVariants.{Refused, Aborted}
 use Rattle.sei_main.specs.declared.world.service.Entered.{Entered}
 use Rattle.sei_main.specs.declared.world.service.Served.{Served}
-use Rattle.sei_main.specs.Answering.{Asked, Answering, AnswerOf, plain_served}
+use Rattle.sei_main.specs.Answering.{Asked, Answering, CallResult, plain_served}
 use Rattle.sei_main.specs.Asked.{IsCallAt}
 use Rattle.sei_main.specs.State.{limits_of}
 
@@ -25,7 +25,7 @@ refused_served = record { entered = None; message = []; state = Refused }
 abbrev pub HasPlan : Option Planned → Type 0
 HasPlan plan = (q : Planned) × (plan ≡ Some q)
 
-module _ {S : Type 0} (R : S → Server → Type 0) (t : Server) (a : Asked) (x : AnswerOf S) where
+module _ {S : Type 0} (R : S → Server → Type 0) (t : Server) (a : Asked) (x : CallResult S) where
   abbrev pub reply : List ℕ
   reply = (server_answer t a.now a.placed).1
 
@@ -38,7 +38,7 @@ module _ {S : Type 0} (R : S → Server → Type 0) (t : Server) (a : Asked) (x 
     pub server : R x.server (server_answer t a.now a.placed).0
 
   -- a fault was planned for its traversal, and struck
-  pub record IsStruck : Type 0 where
+  pub record PlannedFaultStruck : Type 0 where
     pub struck : 0 < x.strikes
     pub planned : HasPlan a.plan
 
@@ -47,11 +47,11 @@ module _ {S : Type 0} (R : S → Server → Type 0) (t : Server) (a : Asked) (x 
     pub enters : (x.served.entered ≡ None) ⊎ (x.served.entered ≡ Some entry)
     pub sends : (x.served.message ≡ []) ⊎ ((x.served.entered ≡ Some entry) × (x.served.message ≡ reply))
 
-  pub data Outcome : Type 0 where
-    AsThere : IsAsThere → Outcome
-    TurnedAway : x.served ≡ refused_served → R x.server t → IsStruck → Outcome
-    Stopped : (abort : Abort) → x.served.state ≡ Aborted abort → IsHarmless → IsStruck → Outcome
+  pub data CallOutcome : Type 0 where
+    AsThere : IsAsThere → CallOutcome
+    TurnedAway : x.served ≡ refused_served → R x.server t → PlannedFaultStruck → CallOutcome
+    Stopped : (abort : Abort) → x.served.state ≡ Aborted abort → IsHarmless → PlannedFaultStruck → CallOutcome
 
 -- a server, related to a plain one, has one of these outcomes for each call, and is related behind it
 abbrev pub IsolatesFaults : {S : Type 0} → Answering S → Geometry → (S → Server → Type 0) → Type 0
-IsolatesFaults {S} answering g R = (s : S) (t : Server) (a : Asked) → IsAskedOf g a → R s t → Outcome R t a (answering s a)
+IsolatesFaults {S} answering g R = (s : S) (t : Server) (a : Asked) → IsAskedOf g a → R s t → CallOutcome R t a (answering s a)

@@ -4,7 +4,7 @@ use Rattle.std.specs.List.{list_all}
 use Rattle.sei_script.specs.declared.line.ScriptLine.{ScriptLine}
 use Rattle.sei_script.specs.declared.line.ScriptLine.TheVariants.{Geometry, Open, Say, Hex, Drain, Clock, Fault}
 
--- a line that plans no fault and changes no byte on its way
+-- a line that plans no fault
 abbrev pub is_quiet_line : ScriptLine → Bool
 is_quiet_line (Geometry g) = true
 is_quiet_line (Open c) = true
@@ -14,7 +14,7 @@ is_quiet_line Drain = true
 is_quiet_line (Clock now) = true
 is_quiet_line (Fault c t plan) = false
 
--- no fault line and no wire line
+-- no line plans a fault
 abbrev pub is_quiet : List ScriptLine → Bool
 is_quiet script = list_all is_quiet_line script
 

@@ -28,19 +28,19 @@ module _ {S : Type 0} (stepping : Stepping S) where
   abbrev pub run_by : S → List ScriptLine → ToldOf S
   run_by server script = run_from_by (start_of server script) script
 
--- the run of a script with its planned faults, on a server as words
-abbrev pub struck_run_of : List ScriptLine → ToldOf Tables
-struck_run_of script = run_by (step_by table_answering) (fresh_tables (geometry_of script)) script
+-- the run of a script: with its planned faults, on a server as words
+abbrev pub run_of : List ScriptLine → ToldOf Tables
+run_of script = run_by (step_by table_answering) (fresh_tables (geometry_of script)) script
 
--- the run on the plain server, which is empty at the start, and knows no faults
-abbrev pub start : List ScriptLine → Told
-start script = start_of (empty_server (geometry_of script)) script
+-- and on the plain server, which is empty at the start, and knows no faults
+abbrev pub plain_start : List ScriptLine → Told
+plain_start script = start_of (empty_server (geometry_of script)) script
 
-abbrev pub after : Told → ScriptLine → Told
-after = after_by step
+abbrev pub plain_after : Told → ScriptLine → Told
+plain_after = after_by step
 
-abbrev pub run_from : Told → List ScriptLine → Told
-run_from = run_from_by step
+abbrev pub plain_run_from : Told → List ScriptLine → Told
+plain_run_from = run_from_by step
 
-abbrev pub run_of : List ScriptLine → Told
-run_of script = run_by step (empty_server (geometry_of script)) script
+abbrev pub plain_run_of : List ScriptLine → Told
+plain_run_of script = run_by step (empty_server (geometry_of script)) script

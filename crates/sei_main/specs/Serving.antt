@@ -66,7 +66,7 @@ served_events c number placed s strikes = entered_events c number placed s.enter
 
 -- calls of a request were answered: the server behind them, what happened, how many messages of the request were sent so
 -- far, and how the last traversal ended
-pub record AnswersOf (S : Type 0) : Type 0 where
+pub record RequestResult (S : Type 0) : Type 0 where
   pub server : S
   pub events : List Event
   pub messages : ℕ
@@ -96,13 +96,13 @@ is_stopped (Aborted abort) = true
 
 module _ {S : Type 0} where
   -- behind a traversal that finished come the later ones, and behind another one none
-  abbrev pub on_with : AnswersOf S → AnswersOf S → State → AnswersOf S
+  abbrev pub on_with : RequestResult S → RequestResult S → State → RequestResult S
   on_with here later Finished = record { server = later.server; events = here.events ++ later.events; messages = later.messages; state = later.state }
   on_with here later state = here
 
 module _ {S : Type 0} (answering : Answering S) where
   -- call number `nth` of a request, behind so many messages
-  abbrev pub answer_in : Asking → ℕ → ℕ → S → Placed → AnswersOf S
+  abbrev pub answer_in : Asking → ℕ → ℕ → S → Placed → RequestResult S
   answer_in q nth messages server placed =
       let a = answering server (asked_in q nth messages placed) in
       record {
@@ -113,7 +113,7 @@ module _ {S : Type 0} (answering : Answering S) where
       }
 
   -- its calls from number `nth` on
-  abbrev pub answers_by : Asking → ℕ → ℕ → S → List Placed → AnswersOf S
+  abbrev pub answers_by : Asking → ℕ → ℕ → S → List Placed → RequestResult S
   answers_by q nth messages server [] = record { server = server; events = []; messages = messages; state = Finished }
   answers_by q nth messages server (placed ∷ later) =
       let here = answer_in q nth messages server placed in

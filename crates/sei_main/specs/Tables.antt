@@ -20,18 +20,18 @@ abbrev pub bucket_words : Tables → ℕ → BucketWords
 bucket_words t b = slice_index_or t.buckets b (fresh_words t.geometry b)
 
 -- the words of a bucket are its own, of its geometry, and stand for the bucket of a server
-pub record IsBucketOf (g : Geometry) (s : Server) (b : ℕ) (w : BucketWords) : Type 0 where
+pub record IsBucketImage (g : Geometry) (s : Server) (b : ℕ) (w : BucketWords) : Type 0 where
   pub bucket : w.bucket ≡ b
   pub geometry : w.geometry ≡ g
   pub stands : Stands g w.words (bucket_at s b)
 
--- and so those of all buckets
+-- the geometry is valid, the server has its room and its buckets, and so are the words of each bucket
 pub record AreServer (t : Tables) (s : Server) : Type 0 where
   pub valid : IsValid t.geometry
   pub room : s.room ≡ room_of t.geometry
   pub tables : length t.buckets ≡ t.geometry.buckets
   pub buckets : length s.buckets ≡ t.geometry.buckets
-  pub each : (b : ℕ) → b < t.geometry.buckets → IsBucketOf t.geometry s b (bucket_words t b)
+  pub each : (b : ℕ) → b < t.geometry.buckets → IsBucketImage t.geometry s b (bucket_words t b)
 
 -- and so those of a geometry
 pub record AreServerOf (g : Geometry) (t : Tables) (s : Server) : Type 0 where

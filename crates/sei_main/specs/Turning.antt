@@ -10,11 +10,11 @@ use Rattle.sei_traverse.specs.declared.turned.Turned.{Turned}
 use Rattle.sei_traverse.specs.Bounds.{StepsWithin, StepsAfter}
 use Rattle.sei_traverse.specs.Service.{given_of}
 use Rattle.sei_traverse.specs.Step.{turn, turn_tree, TimedTwice}
-use Rattle.sei_traverse.specs.State.{TraversalState, IsTraversal, one_more, goes_on}
+use Rattle.sei_traverse.specs.State.{TraversalState, IsTraversal, one_more, is_running}
 use Rattle.sei_main.specs.Errands.{service_for}
 use Rattle.sei_main.specs.Course.{loan_in, put_back, turned}
 
--- a step on what is lent is that of the definition, whatever the core answers
+-- a step on what is lent is that of the definition, under the functions of a core with a plan
 pub record IsStep (g : Geometry) (text : List ℕ) (now : ℕ) (before after : Option BucketWords) (old new : TraversalState) (core later : ScriptState) (t : Turned) : Type 0 where
   pub turned : TimedTwice (function_core script_answer script_next) (Some now) (λ now later. turn_tree (given_of (service_for g) text old.geometry (bucket_of before)) now later old.walk (words_of before)) core later
       (turn new.walk (words_of after) t.state)
@@ -23,7 +23,7 @@ pub record IsStep (g : Geometry) (text : List ℕ) (now : ℕ) (before after : O
   pub sealed : new.walk.sealed ≡ old.walk.sealed
   pub geometry : new.geometry ≡ old.geometry
   pub steps : new.steps ≡ one_more old.steps
-  pub running : new.running ≡ goes_on t.state
+  pub running : new.running ≡ is_running t.state
   pub rooms : IsTraversal new
   pub within : (begin : Counts) → StepsWithin old begin (script_counts core) → StepsAfter new begin (script_counts later) t.state
 
@@ -36,6 +36,6 @@ pub record IsTurn (g : Geometry) (text : List ℕ) (now : ℕ) (lent : Option �
   pub sealed : new.walk.sealed ≡ old.walk.sealed
   pub geometry : new.geometry ≡ old.geometry
   pub steps : new.steps ≡ one_more old.steps
-  pub running : new.running ≡ goes_on t.state
+  pub running : new.running ≡ is_running t.state
   pub rooms : IsTraversal new
   pub within : (begin : Counts) → StepsWithin old begin (script_counts core) → StepsAfter new begin (script_counts later) t.state

@@ -1,4 +1,4 @@
-ghost use Rattle.std.specs.Prelude.{◌≡◌, ◌≢◌, ◌≤◌, IfSome, IfOk, OnOk, true, length};
+ghost use Rattle.std.specs.Prelude.{◌≡◌, ◌≢◌, ◌≤◌, IfSome, IfOk, OnOk, true};
 ghost use Rattle.std.specs.Io.KnownBytes.{IsAtEnd, append_known};
 ghost use Rattle.sei_outside.specs.Faults.{Rose};
 ghost use Rattle.sei_outside.specs.Bytes.{WrotePart};
@@ -6,11 +6,11 @@ ghost use Rattle.mc_model.specs.Server.{IsValid};
 ghost use Rattle.sei_script.specs.Context.{empty_context, geometry_of};
 ghost use Rattle.sei_script.specs.Fit.{AreFit};
 ghost use Rattle.sei_main.specs.State.{limits_of};
-ghost use Rattle.sei_main.specs.Run.{run_by, struck_run_of};
+ghost use Rattle.sei_main.specs.Run.{run_by, run_of};
 ghost use Rattle.sei_main.specs.Serving.{step_by};
 ghost use Rattle.sei_main.specs.Report.{report_of};
 ghost use Rattle.sei_main.specs.Headline.{IsLegalRun, IsNumberedRun, SendsRepliesRun, NothingAfterAbortRun, OnlyStruckAbortsRun, WhenQuiet, IsPlain, PlansFault, AnswersAllRun};
-ghost use Rattle.sei_main.specs.Answers.{Answered, OnInput, HasRun, IsReplayStatus, Refused, IsDecided, reading_in};
+ghost use Rattle.sei_main.specs.Answers.{StatusSays, OnInput, IfScript, WrotePlainPart, HasRun, IsReplayStatus, Refused, IsDecided, reading_in};
 
 use crate::plans::Plans;
 use crate::report::write_closing;
@@ -58,9 +58,9 @@ fn run_on<S: Service + Drop, K: Sink>(
 fn run_script<K: Sink>(reporter: Reporter, script: &Script, sink: &mut K) -> Result<bool, Stop>
     requires fit { AreFit empty_context script.now }
     requires geometry { IsValid (geometry_of script.now) }
-    ensures aborted { IfOk result (λ aborted. aborted ≡ (struck_run_of script.now).state.aborted) }
-    ensures all { OnOk result (K.written sink.new ≡ append_known (K.written sink.old) (report_of reporter.history (struck_run_of script.now))) }
-    ensures part { WrotePart (K.written sink.old) (K.written sink.new) (report_of reporter.history (struck_run_of script.now)) }
+    ensures aborted { IfOk result (λ aborted. aborted ≡ (run_of script.now).state.aborted) }
+    ensures all { OnOk result (K.written sink.new ≡ append_known (K.written sink.old) (report_of reporter.history (run_of script.now))) }
+    ensures part { WrotePart (K.written sink.old) (K.written sink.new) (report_of reporter.history (run_of script.now)) }
     ensures fault { result ≡ Err Stop.WriteFault → Rose (K.faults sink.old) (K.faults sink.new) }
     ensures later { K.faults sink.old ≤ K.faults sink.new }
 {
@@ -91,7 +91,7 @@ fn refuse<K: Sink>(alloc: Global, sink: &mut K, line: u64, why: Why) -> Status
 /// Checks and runs the text of a script.
 fn replay_text<K: Sink>(alloc: Global, text: Vec<u8>, sink: &mut K, history: bool) -> Status
     ensures status { IsReplayStatus result }
-    ensures answer { Answered history (reading_in text.items) (K.written sink.old) (K.written sink.new) result }
+    ensures answer { StatusSays history (reading_in text.items) (K.written sink.old) (K.written sink.new) result }
     ensures read_fault { result ≢ Status.ReadFault }
     ensures write_fault { result ≡ Status.WriteFault → Rose (K.faults sink.old) (K.faults sink.new) }
     ensures later { K.faults sink.old ≤ K.faults sink.new }
@@ -117,7 +117,7 @@ fn replay_all<S: Source, K: Sink>(
     sink: &mut K,
     history: bool,
 ) -> Status
-    ensures answer { IfSome (S.left source.old) (λ input. Answered history (reading_in input) (K.written sink.old) (K.written sink.new) result) }
+    ensures answer { IfSome (S.left source.old) (λ input. StatusSays history (reading_in input) (K.written sink.old) (K.written sink.new) result) }
     ensures status { IsReplayStatus result }
     ensures read_to_end { result ≡ Status.Ok → IsAtEnd (S.left source.new) }
     ensures aborted_at_end { result ≡ Status.Aborted → IsAtEnd (S.left source.new) }
@@ -147,7 +147,7 @@ pub fn replay<S: Source, K: Sink>(
     history: bool,
 ) -> Status
     // What each answer means, and what was written then: on Ok and Aborted exactly the report of the script's run with its planned faults.
-    ensures answer { IfSome (S.left source.old) (λ input. Answered history (reading_in input) (K.written sink.old) (K.written sink.new) result) }
+    ensures answer { IfSome (S.left source.old) (λ input. StatusSays history (reading_in input) (K.written sink.old) (K.written sink.new) result) }
     ensures status { IsReplayStatus result }
     ensures read_to_end { result ≡ Status.Ok → IsAtEnd (S.left source.new) }
     ensures aborted_at_end { result ≡ Status.Aborted → IsAtEnd (S.left source.new) }
@@ -171,6 +171,8 @@ pub fn replay<S: Source, K: Sink>(
     ensures only_struck_aborts { HasRun result → OnInput (S.left source.old) OnlyStruckAbortsRun }
     // A script that plans no fault is run as on the plain server, and is never aborted;
     ensures quiet { HasRun result → OnInput (S.left source.old) (WhenQuiet (IsPlain history)) }
+    // and at any end what was written of it is a first part of the plain server's report;
+    ensures quiet_part { IfScript (S.left source.old) (WhenQuiet (WrotePlainPart history (K.written sink.old) (K.written sink.new))) }
     ensures planned { result ≡ Status.Aborted → OnInput (S.left source.old) PlansFault }
     // and behind a last `drain` of it, all calls are answered and all replies sent.
     ensures all_answered { HasRun result → OnInput (S.left source.old) AnswersAllRun }

@@ -2,7 +2,7 @@ ghost use Rattle.std.specs.Prelude.{◌≡◌, ◌≤◌, true, false, IfSome, m
 ghost use Rattle.std.specs.Io.KnownBytes.{IsAtEnd};
 ghost use Rattle.sei_outside.specs.Faults.{Rose};
 ghost use Rattle.sei_main.specs.Headline.{IsLegalRun, IsNumberedRun, SendsRepliesRun, NothingAfterAbortRun, OnlyStruckAbortsRun, WhenQuiet, IsPlain, PlansFault, AnswersAllRun};
-ghost use Rattle.sei_main.specs.Answers.{Answered, OnInput, HasRun, IsDecided, IsReplayStatus, reading_in};
+ghost use Rattle.sei_main.specs.Answers.{StatusSays, OnInput, IfScript, WrotePlainPart, HasRun, IsDecided, IsReplayStatus, reading_in};
 ghost use Rattle.sei_main.specs.Forms.{is_replay, UsageWritten};
 
 use crate::replay::replay;
@@ -52,7 +52,7 @@ pub fn run<S: Source, K: Sink>(
 
     // For the word `replay`: as `replay` says.
     ensures status { is_replay (map string_bytes words.now) ≡ true → IsReplayStatus result }
-    ensures answer { is_replay (map string_bytes words.now) ≡ true → IfSome (S.left source.old) (λ input. Answered false (reading_in input) (K.written sink.old) (K.written sink.new) result) }
+    ensures answer { is_replay (map string_bytes words.now) ≡ true → IfSome (S.left source.old) (λ input. StatusSays false (reading_in input) (K.written sink.old) (K.written sink.new) result) }
     ensures read_to_end { result ≡ Status.Ok → IsAtEnd (S.left source.new) }
     ensures aborted_at_end { result ≡ Status.Aborted → IsAtEnd (S.left source.new) }
     ensures complete { is_replay (map string_bytes words.now) ≡ true → ¬ Rose (S.faults source.old) (S.faults source.new) → ¬ Rose (K.faults sink.old) (K.faults sink.new)
@@ -63,6 +63,7 @@ pub fn run<S: Source, K: Sink>(
     ensures nothing_after_abort { HasRun result → OnInput (S.left source.old) NothingAfterAbortRun }
     ensures only_struck_aborts { HasRun result → OnInput (S.left source.old) OnlyStruckAbortsRun }
     ensures quiet { HasRun result → OnInput (S.left source.old) (WhenQuiet (IsPlain false)) }
+    ensures quiet_part { is_replay (map string_bytes words.now) ≡ true → IfScript (S.left source.old) (WhenQuiet (WrotePlainPart false (K.written sink.old) (K.written sink.new))) }
     ensures planned { result ≡ Status.Aborted → OnInput (S.left source.old) PlansFault }
     ensures all_answered { HasRun result → OnInput (S.left source.old) AnswersAllRun }
 {

@@ -3,7 +3,6 @@
 ghost use Rattle.std.specs.Prelude.{◌≡◌, ◌+◌, ◌≤◌, IfOk, OnOk, true, map, length, All, None, Some};
 ghost use Rattle.std.specs.List.{range_with_len};
 ghost use Rattle.mc_model.specs.Server.{IsValid};
-ghost use Rattle.sei_fault.specs.Script.{script_counts};
 ghost use Rattle.sei_words.specs.Words.{fresh_words};
 ghost use Rattle.sei_stmt.specs.Handling.{parsed_words};
 ghost use Rattle.sei_pass.specs.Setting.{sealed_call};
@@ -24,20 +23,10 @@ use sei_hand::{Hands, HandsError};
 use sei_outside::SetClock;
 use sei_pass::Sealed;
 use sei_script::Text;
-use sei_traverse::{State, Traversal, Turned, Want};
+use sei_traverse::{State, Traversal, Turned, Want, most_steps};
 use sei_words::Words;
 use std::alloc::{AllocError, Global};
 use std::marker::Model;
-
-/// How many steps a traversal has at most, with one strike at most.
-fn most_steps(g: &Geometry) -> u64
-    requires { IsValid g.now }
-    ensures { result ≡ most_steps g.now }
-{
-    let statements = 2000 + 400 * g.slots + 100 * g.value_words;
-    let changes = 48 + g.slots + g.value_words;
-    2 * statements + 6 * changes + 26
-}
 
 /// The words of as many empty buckets as the geometry says.
 fn fresh_buckets(alloc: Global, g: &Geometry) -> Result<Vec<Words>, Memory>
@@ -64,6 +53,7 @@ fn lent_behind(want: Want, lent: Option<u64>) -> Option<u64>
 }
 
 /// Makes a step of the traversal, with the words of a bucket lent.
+#[inline(always)]
 fn turn_on(
     traversal: &mut Traversal,
     hands: &Hands,
@@ -81,6 +71,7 @@ fn turn_on(
 }
 
 /// Makes a step of the traversal, with nothing lent.
+#[inline(never)]
 fn turn_alone(
     traversal: &mut Traversal,
     hands: &Hands,
@@ -97,6 +88,7 @@ fn turn_alone(
 
 /// Makes a step of the traversal. The words of the bucket that is lent go with it; one that is not there
 /// has none.
+#[inline(always)]
 fn turn(
     traversal: &mut Traversal,
     hands: &Hands,
@@ -132,6 +124,7 @@ fn copy(alloc: Global, bytes: &[u8]) -> Result<Text, Memory>
 
 /// Does what the last step wanted of the journal and of the connection: the call is entered, at the
 /// noted time, with the reply; the copy for the wire is sent.
+#[inline(always)]
 fn serve(
     alloc: Global,
     traversal: &Traversal,

@@ -24,7 +24,7 @@ use Rattle.sei_traverse.specs.declared.walk.Walk.{Walk}
 use Rattle.sei_traverse.specs.Comes.{at_time, renoted, renoted_end}
 use Rattle.sei_traverse.specs.Errand.{Errand, first_setting, first_start, Whole}
 use Rattle.sei_traverse.specs.Phases.{reply_of}
-use Rattle.sei_traverse.specs.Struck.{IsAimed, Answers}
+use Rattle.sei_traverse.specs.Struck.{IsAimed, IsHonestResult}
 use Rattle.sei_traverse.specs.Trusted.{IsTrusted, second_setting}
 use Rattle.sei_traverse.specs.Unstruck.{first_questions, InBoth}
 use Rattle.sei_traverse.proofs.NoteLaws.{repeats, now_first}
@@ -166,7 +166,7 @@ module _ (e : Errand) (time made : ℕ) (end : Machine) (whole : Whole e time ma
 
   -- words and a reply that are those of its end are those of an honest run
   pub answers_whole : (trusted : IsTrusted e) (w : Walk) (words : List ℕ) (asked : ℕ) → IsAimed e w → w.notes ≡ end.notes → words ≡ end.words → reply_of w ≡ end.bytes.items →
-      first_questions e time made ≤ asked → Answers e w words asked
+      first_questions e time made ≤ asked → IsHonestResult e w words asked
   answers_whole trusted w words asked aimed notes are reply questions =
       let read = trusted.reads aimed.fit end.notes end made whole_again in
       record {
@@ -184,7 +184,7 @@ module _ (e : Errand) (time made : ℕ) (end : Machine) (whole : Whole e time ma
 
 -- where both passes have come to the same end, the words and the reply are those of an honest run
 pub answers_clean : (e : Errand) → IsTrusted e → (w : Walk) (words : List ℕ) (time made : ℕ) (end : Machine) (asked : ℕ) → IsAimed e w →
-    InBoth e w (Some words) time made end asked → Answers e w words asked
+    InBoth e w (Some words) time made end asked → IsHonestResult e w words asked
 answers_clean e trusted w words time made end asked aimed b =
     answers_whole e time made end b.whole trusted w words asked aimed b.first.notes (same_Some words end.words b.words)
     (ap (λ (p : PassState). p.bytes.items) b.second.second) (omega (arith, b.questions))

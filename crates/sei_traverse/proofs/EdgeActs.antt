@@ -31,7 +31,7 @@ use Rattle.sei_traverse.specs.PassActs.{first_machine}
 use Rattle.sei_traverse.specs.Phases.{guard_tree, guard_call, take_tree, take_wanted, send_want}
 use Rattle.sei_traverse.specs.Service.{Given, given_of, has_sealed_call, bucket_of_call, bucket_or_zero}
 use Rattle.sei_traverse.specs.Step.{act_in, site_in, plain_below}
-use Rattle.sei_traverse.specs.Unstruck.{take_want, NextIn, IsOf, FirstIsNew, SecondIsNew, SecondIsDone, InGuard, InTake, WantedAt, FirstWaits, FirstRuns, InBoth, InEnter, InGive, IsAnswered, InSend, InDone, IsFinished}
+use Rattle.sei_traverse.specs.Unstruck.{take_want, NextIn, IsOf, FirstIsNew, SecondIsNew, SecondIsDone, InGuard, InTake, WantedAt, FirstWaits, FirstRuns, InBoth, InEnter, InGive, HasOutput, InSend, InDone, IsFinished}
 use Rattle.sei_traverse.proofs.Branches.{below}
 use Rattle.sei_traverse.proofs.Closes.{closed_walk, closes_then}
 use Rattle.sei_traverse.proofs.GoesOn.{GoesOn}
@@ -70,7 +70,7 @@ both_stay e w lent want to time made end asked both = record {
   questions = omega (arith, both.questions);
 }
 
-answered_stays : (e : Errand) (w : Walk) (want : Want) (to : Place) (time made : ℕ) (end : Machine) (asked : ℕ) → IsAnswered e w time made end asked → IsAnswered e (behind w want to) time made end asked
+answered_stays : (e : Errand) (w : Walk) (want : Want) (to : Place) (time made : ℕ) (end : Machine) (asked : ℕ) → HasOutput e w time made end asked → HasOutput e (behind w want to) time made end asked
 answered_stays e w want to time made end asked answered = record {
   whole = answered.whole;
   second = second_done e w want to end answered.second;
@@ -320,7 +320,7 @@ module _ (e : Errand) (now : ℕ) (w : Walk) (words : List ℕ) (steps asked : �
           time = i.time;
           made = i.made;
           end = i.end;
-          answered = subst (λ (q : ℕ). IsAnswered e (behind w want (at Done 0)) i.time i.made i.end q) (sym (none_more asked)) (answered_stays e w want (at Done 0) i.time i.made i.end asked i.answered);
+          answered = subst (λ (q : ℕ). HasOutput e (behind w want (at Done 0)) i.time i.made i.end q) (sym (none_more asked)) (answered_stays e w want (at Done 0) i.time i.made i.end asked i.answered);
           index = refl;
           number = omega (arith, i.number);
         };

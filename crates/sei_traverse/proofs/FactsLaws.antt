@@ -12,7 +12,7 @@ use Rattle.sei_traverse.specs.Errand.{Errand}
 use Rattle.sei_traverse.specs.Facts.{StruckCase, Facts}
 use Rattle.sei_traverse.specs.Facts.StruckCase.{Right, Lost}
 use Rattle.sei_traverse.specs.OnWay.{OnWay}
-use Rattle.sei_traverse.specs.State.{TraversalState, begun}
+use Rattle.sei_traverse.specs.State.{TraversalState, begun_traversal}
 use Rattle.sei_traverse.specs.Struck.{FirstStruck, StruckIn}
 use Rattle.sei_traverse.specs.Struck.FirstStruck.{Restorable}
 use Rattle.sei_traverse.specs.Trusted.{IsTrusted}
@@ -20,7 +20,7 @@ use Rattle.sei_traverse.specs.Unstruck.{FirstIsNew, CleanIn}
 use Rattle.sei_traverse.proofs.EdgeActs.{lends}
 use Rattle.sei_traverse.proofs.StepEnds.{same_phase, clean_gate}
 
-pub facts_begin : (e : Errand) (c : Counts) → Facts e (begun e.geometry e.sealed) None c c
+pub facts_begin : (e : Errand) (c : Counts) → Facts e (begun_traversal e.geometry e.sealed) None c c
 facts_begin e c = record {
   later = omega arith;
   unstruck = λ u. record {

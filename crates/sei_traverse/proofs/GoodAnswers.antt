@@ -20,8 +20,8 @@ use Rattle.sei_traverse.specs.Comes.{renoted}
 use Rattle.sei_traverse.specs.Errand.{Errand, given_in, first_start}
 use Rattle.sei_traverse.specs.PassActs.{second_machine}
 use Rattle.sei_traverse.specs.Service.{call_of}
-use Rattle.sei_traverse.specs.Struck.{Answers, ComesOn, setting_on, start_on}
-use Rattle.sei_traverse.specs.Trusted.{IsFit, IsTrusted, second_setting}
+use Rattle.sei_traverse.specs.Struck.{IsHonestResult, ComesOn, setting_on, start_on}
+use Rattle.sei_traverse.specs.Trusted.{PassesGuard, IsTrusted, second_setting}
 
 -- A table that parses first.
 
@@ -84,7 +84,7 @@ module _ (e : Errand) (trusted : IsTrusted e) (w : Walk) (passed : Passed (setti
   has_call : (p : Parsed) × (call_of (given_in e) e.sealed ≡ Some p)
   has_call = some_of (call_of (given_in e) e.sealed) passed.parsed
 
-  good_fit : IsFit e
+  good_fit : PassesGuard e
   good_fit =
       let has = trusted.called_has has_call.0 has_call.1 in
       record { intact = passed.intact; has = has; called = trusted.has_called has }
@@ -96,10 +96,10 @@ module _ (e : Errand) (trusted : IsTrusted e) (w : Walk) (passed : Passed (setti
 
 -- the words and the output that it leaves are those of an honest run
 pub good_answers : (e : Errand) → IsTrusted e → (w : Walk) (words : List ℕ) (asked n : ℕ) → ComesOn e w e.taken words Halted n →
-    first_asked (setting_on e w.wanted) (start_on e e.taken w.notes) n + 1 ≤ asked → Answers e w words asked
+    first_asked (setting_on e w.wanted) (start_on e e.taken w.notes) n + 1 ≤ asked → IsHonestResult e w words asked
 good_answers e trusted w words asked n comes asks =
     let passed = halted_passed (setting_on e w.wanted) (start_on e e.taken w.notes) (second_machine w words) n trusted.parses (record { halts = comes }) in
-    let fit : IsFit e = good_fit e trusted w passed in
+    let fit : PassesGuard e = good_fit e trusted w passed in
     let wanted : w.wanted ≡ e.call.bucket = good_wanted e trusted w passed in
     let ends : HonestRun (second_setting e) (renoted w.notes (first_start e)) (second_machine w words) n =
     subst (λ (b : ℕ). HonestRun (setting_on e b) (start_on e e.taken w.notes) (second_machine w words) n) wanted (record { halts = comes }) in

@@ -11,9 +11,9 @@ use Rattle.sei_traverse.specs.declared.walk.Walk.{Walk}
 use Rattle.sei_traverse.specs.Errand.{Errand, Whole}
 use Rattle.sei_traverse.specs.Facts.{Knows, Wanted, closing_want, IsLikeWalk}
 use Rattle.sei_traverse.specs.Phases.{reply_of, send_want}
-use Rattle.sei_traverse.specs.Struck.{IsAimed, Answers, SendStruck, On}
+use Rattle.sei_traverse.specs.Struck.{IsAimed, IsHonestResult, SendStruck, On}
 use Rattle.sei_traverse.specs.Trusted.{IsTrusted}
-use Rattle.sei_traverse.specs.Unstruck.{SecondIsDone, IsAnswered, InBoth, CleanIn, first_questions}
+use Rattle.sei_traverse.specs.Unstruck.{SecondIsDone, HasOutput, InBoth, CleanIn, first_questions}
 use Rattle.sei_traverse.proofs.ClosesNext.{ClosesNext}
 use Rattle.sei_traverse.proofs.ClosesNext.ClosesNext.{Stays, Closes, Lacks}
 use Rattle.sei_traverse.proofs.CleanAnswers.{answers_whole}
@@ -29,11 +29,11 @@ halved_nothing e w lent asked want none = (0, omega arith, subst (λ (n : Want).
 
 module _ (e : Errand) (trusted : IsTrusted e) (w : Walk) (time made : ℕ) (end : Machine) (aimed : IsAimed e w) where
   -- the answers of a clean second pass, with the questions of the first one alone
-  answers_half : Whole e time made end → SecondIsDone e w end → w.notes ≡ end.notes → Answers e w end.words (first_questions e time made)
+  answers_half : Whole e time made end → SecondIsDone e w end → w.notes ≡ end.notes → IsHonestResult e w end.words (first_questions e time made)
   answers_half whole second notes =
       answers_whole e time made end whole trusted w end.words (first_questions e time made) aimed notes refl (ap (λ (p : PassState). p.bytes.items) second.second) (omega arith)
 
-  pub sends_half : (asked : ℕ) → IsAnswered e w time made end asked → SendStruck e w (first_questions e time made)
+  pub sends_half : (asked : ℕ) → HasOutput e w time made end asked → SendStruck e w (first_questions e time made)
   sends_half asked i = record {
     words = end.words;
     answered = record { answers = answers_half i.whole i.second i.notes; wire = i.copy ∙ sym (ap (λ (p : PassState). p.bytes.items) i.second.second) };
@@ -47,12 +47,12 @@ module _ (e : Errand) (trusted : IsTrusted e) (w v : Walk) (like : IsLikeWalk w 
   second_on : SecondIsDone e w end → SecondIsDone e v end
   second_on s = record { second = like.second ∙ s.second; second_log = like.second_log ∙ s.second_log }
 
-  words_half : InBoth e w lent time made end asked → On left (λ (words : List ℕ). Answers e v words (first_questions e time made))
+  words_half : InBoth e w lent time made end asked → On left (λ (words : List ℕ). IsHonestResult e v words (first_questions e time made))
   words_half b =
-      subst (λ (l : Option (List ℕ)). On l (λ (words : List ℕ). Answers e v words (first_questions e time made))) (sym (same ∙ b.words))
+      subst (λ (l : Option (List ℕ)). On l (λ (words : List ℕ). IsHonestResult e v words (first_questions e time made))) (sym (same ∙ b.words))
       (answers_half e trusted v time made end aimed_on b.whole (second_on b.second) (like.notes ∙ b.first.notes))
 
-  answered_on : IsAnswered e w time made end asked → IsAnswered e v time made end asked
+  answered_on : HasOutput e w time made end asked → HasOutput e v time made end asked
   answered_on i = record {
     whole = i.whole;
     second = second_on i.second;
@@ -61,7 +61,7 @@ module _ (e : Errand) (trusted : IsTrusted e) (w v : Walk) (like : IsLikeWalk w 
     questions = i.questions;
   }
 
-  send_half : IsAnswered e w time made end asked → (bytes : List ℕ) (number : ℕ) → Wanted e v left number (send_want bytes) → Halved e v left asked (send_want bytes)
+  send_half : HasOutput e w time made end asked → (bytes : List ℕ) (number : ℕ) → Wanted e v left number (send_want bytes) → Halved e v left asked (send_want bytes)
   send_half i [] number wanted = (0, omega arith, tt)
   send_half i (byte ∷ bytes) number wanted = (first_questions e time made, i.questions, (sends_half e trusted v time made end aimed_on asked (answered_on i), wanted.1))
 

@@ -10,7 +10,7 @@ use Rattle.sei_traverse.specs.declared.turned.Want.TheVariants.{Nothing, Take as
 use Rattle.sei_traverse.specs.declared.walk.Walk.{Walk}
 use Rattle.sei_traverse.specs.Errand.{Errand}
 use Rattle.sei_traverse.specs.Facts.{Wanted}
-use Rattle.sei_traverse.specs.Struck.{IsAimed, Answers, FirstStruck, FirstStands, WasHonest, WasMisread, RestoreStruck, SecondStruck, CompareStruck, WordsStruck, VerifyStruck, EnterStruck, SendStruck, On, StruckIn}
+use Rattle.sei_traverse.specs.Struck.{IsAimed, IsHonestResult, FirstStruck, FirstStands, WasHonest, WasMisread, RestoreStruck, SecondStruck, CompareStruck, WordsStruck, VerifyStruck, EnterStruck, SendStruck, On, StruckIn}
 use Rattle.sei_traverse.specs.Struck.FirstStruck.{Restorable, Misread}
 use Rattle.sei_traverse.specs.Struck.RestoreStruck.{Restorable as RestorableR, Misread as MisreadR, Damaged as DamagedR}
 use Rattle.sei_traverse.specs.Struck.SecondStruck.{Good, Misread as MisreadS, Damaged as DamagedS, Struck as StruckS}
@@ -29,7 +29,7 @@ module _ (e : Errand) (w v : Walk) (l : IsLike w v) where
   pub aimed_like : IsAimed e w → IsAimed e v
   aimed_like a = record { fit = a.fit; wanted = l.wanted ∙ a.wanted }
 
-  pub answers_like : (words : List ℕ) (asked : ℕ) → Answers e w words asked → Answers e v words asked
+  pub answers_like : (words : List ℕ) (asked : ℕ) → IsHonestResult e w words asked → IsHonestResult e v words asked
   answers_like words asked a = record {
     aimed = aimed_like a.aimed;
     time = a.time;
@@ -55,8 +55,8 @@ module _ (e : Errand) (w v : Walk) (l : IsLike w v) where
   pub wanted_like : (lent : Option (List ℕ)) (asked : ℕ) (want : Want) → Wanted e w lent asked want → Wanted e v lent asked want
   wanted_like lent asked Nothing h = h
   wanted_like lent asked (WantTake bucket) h = (h.0 ∙ sym l.wanted, h.1)
-  wanted_like lent asked WantEnter h = on_map lent (λ words. Answers e w words asked) (λ words. Answers e v words asked) (λ words. answers_like words asked) h
-  wanted_like lent asked WantGive h = on_map lent (λ words. Answers e w words asked) (λ words. Answers e v words asked) (λ words. answers_like words asked) h
+  wanted_like lent asked WantEnter h = on_map lent (λ words. IsHonestResult e w words asked) (λ words. IsHonestResult e v words asked) (λ words. answers_like words asked) h
+  wanted_like lent asked WantGive h = on_map lent (λ words. IsHonestResult e w words asked) (λ words. IsHonestResult e v words asked) (λ words. answers_like words asked) h
   wanted_like lent asked WantSend h = (send_like asked h.0, λ none. h.1 (sym (ap (λ (p : PassState). p.bytes.items) l.second) ∙ none))
 
 -- What is wanted, of the struck cases.

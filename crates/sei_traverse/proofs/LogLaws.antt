@@ -83,22 +83,6 @@ pub undo_step : (before : List ℕ) (log : List Change) (words : List ℕ) (n : 
 undo_step before log words n leads h =
     ap (λ (o : Option AbortCause). record { words = restored log words (suc n); cause = o }) (stays_inside before log words n leads h)
 
-asks_word : (words : List ℕ) (c : Change) (a : ℕ) (o : Option ℕ) → (honest (undo_word words c a o)).cause ≡ None → questions (undo_word words c a o) ≡ 2
-asks_word words c a None e = absurd cc
-asks_word words c a (Some word) e = refl
-
-asks_at : (words : List ℕ) (o : Option Change) (c : Change) → o ≡ Some c → (honest (undo_at words o)).cause ≡ None → questions (undo_at words o) ≡ 3
-asks_at words None c is e = absurd cc
-asks_at words (Some d) c is e = ap (λ (n : ℕ). 1 + n) (asks_word words d d.address (slice_get words d.address) e)
-
--- and asks three questions
-pub undo_asks : (before : List ℕ) (log : List Change) (words : List ℕ) (n : ℕ) → LeadsTo before log words → n < length log
-    → questions (undo_at (restored log words n) (slice_get log (length log - 1 - n))) ≡ 3
-undo_asks before log words n leads h =
-    let k = length log - 1 - n in
-    let none : Change = record { address = 0; was = 0; becomes = 0 } in
-    asks_at (restored log words n) (slice_get log k) (get_or log k none) (slice_get-get_or log k none (omega (arith, h))) (stays_inside before log words n leads h)
-
 -- What each statement keeps.
 
 -- its words, log, output bytes and output code
@@ -378,58 +362,7 @@ room_kept g start n =
     all_along g (RoomsStay start) (λ i m s e h. room_one g start i m s h) start
     (record { registers = refl; input = refl; output = refl; bytes = refl; log = refl; output_fits = λ h. h; log_fits = λ h. h }) n
 
--- each step counts at most one statement
-pub made_rises : (g : Setting) (start : Machine) (n : ℕ) →
-    ((after g start n).machine.made ≤ (after g start (suc n)).machine.made) × ((after g start (suc n)).machine.made ≤ (after g start n).machine.made + 1)
-made_rises g start n =
-    let m : Machine = (after g start n).machine in
-    each_onward g m (after g start n).outcome (λ x. (m.made ≤ x.made) × (x.made ≤ m.made + 1)) (omega arith, omega arith)
-    (λ i s e. let one = (kept_by g i (counting m) s).made in (omega (arith, one), omega (arith, one)))
-
--- and no honest run makes more statements than its budget
-pub made_within : (g : Setting) (start : Machine) (n : ℕ) → start.made ≤ g.budget → (after g start n).machine.made ≤ g.budget
-made_within g start n h =
-    all_along g (λ m. m.made ≤ g.budget) (λ i m s e le.
-    let one = (kept_by g i (counting m) s).made in
-    let below = ltb-true m.made g.budget e in
-    omega (arith, one, below)) start h n
-
 -- The output code.
-
-only_is : (b : Bool) (s t : ℕ) → only b s ≡ Some t → s ≡ t
-only_is true s t e = same_Some s t e
-only_is false s t e = absurd cc
-
-only_where : (b : Bool) (s t : ℕ) → only b s ≡ Some t → b ≡ true
-only_where true s t e = refl
-only_where false s t e = absurd cc
-
--- only Render leads to the last stage
-finishing : (stage : ℕ) (s : Stmt) → stage_behind stage s ≡ Some finished → (s ≡ Render) ⊎ (stage ≡ finished)
-finishing stage (Const to number) e = inr (same_Some stage finished e)
-finishing stage (Move to from) e = inr (same_Some stage finished e)
-finishing stage (Add to left right) e = inr (same_Some stage finished e)
-finishing stage (Sub to left right) e = inr (same_Some stage finished e)
-finishing stage (Input to index) e = inr (only_is (is_parsed stage) stage finished e)
-finishing stage (Load to address) e = inr (same_Some stage finished e)
-finishing stage (Store address from) e = inr (same_Some stage finished e)
-finishing stage (Emit from) e = inr (only_is (is_open stage) stage finished e)
-finishing stage (Jump offset) e = inr (same_Some stage finished e)
-finishing stage (JumpEq left right offset) e = inr (same_Some stage finished e)
-finishing stage (JumpLt left right offset) e = inr (same_Some stage finished e)
-finishing stage (Now to) e = let never = only_is (stage == parsed) timed finished e in absurd (omega (arith, never))
-finishing stage (Alloc to moment) e = let never = only_is (stage == timed) slotted finished e in absurd (omega (arith, never))
-finishing stage Parse e = let never = only_is (stage == unparsed) parsed finished e in absurd (omega (arith, never))
-finishing stage Render e = inl refl
-finishing stage Halt e = inr (eqb-true stage finished (only_where (stage == finished) finished finished e))
-
-same_told : (g : Setting) (m m' : Machine) → m'.bytes.items ≡ m.bytes.items → m'.code ≡ m.code → Told g m → Told g m'
-same_told g m m' bytes code told = code ∙ told ∙ ap (λ (items : List ℕ). Some (message_code g.answer items)) (sym bytes)
-
-unless_bad : (g : Setting) (m : Machine) (o : Outcome) → Told g m → ToldUnlessBad g m o
-unless_bad g m (Next i) told = told
-unless_bad g m Halted told = told
-unless_bad g m (Bad cause) told = tt
 
 -- each other statement keeps the output bytes and their code
 says_kind : (g : Setting) (i : ℕ) (m : Machine) (s : Stmt) → Kind g i m s → (s ≡ Render) ⊎ Says m (honest (statement_tree g i m s))
@@ -441,48 +374,6 @@ says_kind g i m s (Renders is) = inl is
 says_kind g i m s (Plain a) =
     let stays = always_honest (Stays m) (statement_tree g i m s) a in
     inr (record { bytes = stays.bytes; code = stays.code })
-
-told_render : (g : Setting) (i : ℕ) (m : Machine) (s : Stmt) → RendersBytes g → s ≡ Render →
-    ToldUnlessBad g (honest (statement_tree g i m s)).machine (honest (statement_tree g i m s)).outcome
-told_render g i m s small is =
-    subst (λ (x : Stmt). ToldUnlessBad g (honest (statement_tree g i m x)).machine (honest (statement_tree g i m x)).outcome) (sym is)
-    ((makes_render g m i [] m.output.items).told small)
-
-told_one : (g : Setting) (i : ℕ) (m : Machine) (s : Stmt) (stage : ℕ) → RendersBytes g → stage_behind stage s ≡ Some finished → (stage ≡ finished → Told g m) →
-    ToldUnlessBad g (honest (statement_tree g i m s)).machine (honest (statement_tree g i m s)).outcome
-told_one g i m s stage small e told =
-    elim (finishing stage s e) [
-      | inl is ↦ told_render g i m s small is
-      | inr last ↦ elim (says_kind g i m s (kind g i m s)) [
-        | inl is ↦ told_render g i m s small is
-        | inr says ↦ (let x : After = honest (statement_tree g i m s) in unless_bad g x.machine x.outcome (same_told g m x.machine says.bytes says.code (told last)))
-      ]
-    ]
-
-told_from : (g : Setting) (m : Machine) (stage : Option ℕ) (o : Outcome) → RendersBytes g → (stage ≡ Some finished → ToldUnlessBad g m o) →
-    stage_onward g stage o ≡ Some finished → ToldUnlessBad g (onward_from g m o).machine (onward_from g m o).outcome
-told_from g m None o small told e = absurd cc
-told_from g m (Some stage) Halted small told e = told e
-told_from g m (Some stage) (Bad cause) small told e = tt
-told_from g m (Some stage) (Next i) small told e =
-    each_step g i m (λ x. ToldUnlessBad g x.machine x.outcome) (λ cause. tt) (λ s at counts.
-    told_one g i (counting m) s stage small (ap (stage_behind_found stage) (sym at) ∙ e) (λ last. told (ap Some last)))
-
-told_after : (g : Setting) (start : Machine) (n : ℕ) → RendersBytes g → stage_after g start n ≡ Some finished → ToldUnlessBad g (after g start n).machine (after g start n).outcome
-told_after g start zero small e = absurd (omega (arith, same_Some unparsed finished e))
-told_after g start (suc n) small e =
-    told_from g (after g start n).machine (stage_after g start n) (after g start n).outcome small (λ last. told_after g start n small last) e
-
--- where an honest run has halted in the last stage, its output code is that of its output bytes
-pub rendered_code : (g : Setting) (start : Machine) (n : ℕ) → RendersBytes g → stage_after g start n ≡ Some finished → (after g start n).outcome ≡ Halted →
-    (after g start n).machine.code ≡ Some (message_code g.answer (after g start n).machine.bytes.items)
-rendered_code g start n small e halted =
-    subst (λ (o : Outcome). ToldUnlessBad g (after g start n).machine o) halted (told_after g start n small e)
-
--- so is that of a run that ends well
-pub well_coded : (g : Setting) (Held : List ℕ → Type 0) (reply : List ℕ) (start end : Machine) (steps : ℕ) → EndsWell g Held reply start end steps →
-    end.code ≡ Some (message_code g.answer end.bytes.items)
-well_coded g Held reply start end steps w = w.coded ∙ ap (λ (bytes : List ℕ). Some (message_code g.answer bytes)) (sym w.replied)
 
 -- The first output byte.
 

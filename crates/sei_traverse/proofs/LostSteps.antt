@@ -19,7 +19,7 @@ use Rattle.sei_traverse.specs.declared.walk.Walk.{Walk}
 use Rattle.sei_traverse.specs.Acts.{Acted}
 use Rattle.sei_traverse.specs.Errand.{Errand}
 use Rattle.sei_traverse.specs.Step.{Turn, aborted, is_end, arrival, act_tree, goes_from, goes_on, turn_at}
-use Rattle.sei_traverse.specs.Trusted.{IsFit}
+use Rattle.sei_traverse.specs.Trusted.{PassesGuard}
 use Rattle.sei_traverse.proofs.Onward.{given_with}
 use Rattle.sei_traverse.proofs.PhaseLaws.{PhaseLaws}
 use Rattle.sei_traverse.proofs.StepEnds.{same_phase, end_number, StaysIn}
@@ -54,7 +54,7 @@ lost_from done p u words (Aborts cause) none gate wrong stays never =
     record { want = none; gate = gate; lost = λ went same. let z : ⊥ = cc in z; unfinished = λ finished. let z : ⊥ = cc in z }
 
 module _ (e : Errand) (laws : (phase : Phase) → (phase ≡ Guard → ⊥) → PhaseLaws e phase) (lost : LostLaw) (now later : ℕ) (loan : Option BucketWords) (w : Walk) (nothing : w.want ≡ Nothing)
-    (sealed : w.sealed ≡ e.sealed) (wrong : w.gate.done ≢ phase_number w.place.phase) (fit : w.place.phase ≡ Guard → IsFit e) where
+    (sealed : w.sealed ≡ e.sealed) (wrong : w.gate.done ≢ phase_number w.place.phase) (fit : w.place.phase ≡ Guard → PassesGuard e) where
   abbrev its_end : Acted
   its_end = honest (act_tree (given_with e loan) now w (words_of loan))
 

@@ -9,7 +9,7 @@ use Rattle.sei_traverse.specs.declared.turned.Want.{Want}
 use Rattle.sei_traverse.specs.declared.walk.Walk.{Walk}
 use Rattle.sei_traverse.specs.Comes.{at_time}
 use Rattle.sei_traverse.specs.Errand.{Errand, IsErrand, Whole, first_setting, first_start}
-use Rattle.sei_traverse.specs.Unstruck.{IsOf, FirstIsNew, SecondIsNew, FirstIsDone, SecondIsDone, before_enter, first_questions, FirstAt, InBoth, IsAnswered, CleanIn, IsFinished}
+use Rattle.sei_traverse.specs.Unstruck.{IsOf, FirstIsNew, SecondIsNew, FirstIsDone, SecondIsDone, before_enter, first_questions, FirstAt, InBoth, HasOutput, CleanIn, IsFinished}
 use Rattle.sei_traverse.specs.Walks.{log_room}
 use Rattle.sei_traverse.proofs.LogLaws.{room_kept}
 use Rattle.sei_traverse.proofs.TimeLaws.{ends_so}
@@ -44,7 +44,7 @@ in_both : (e : Errand) (w : Walk) (n : Want) (lent : Option (List ℕ)) (time ma
 in_both e w n lent time made end asked x =
     record { whole = x.whole; first = first_done e w n end x.first; second = second_done e w n end x.second; words = x.words; questions = x.questions }
 
-is_answered : (e : Errand) (w : Walk) (n : Want) (time made : ℕ) (end : Machine) (asked : ℕ) → IsAnswered e w time made end asked → IsAnswered e (wanting w n) time made end asked
+is_answered : (e : Errand) (w : Walk) (n : Want) (time made : ℕ) (end : Machine) (asked : ℕ) → HasOutput e w time made end asked → HasOutput e (wanting w n) time made end asked
 is_answered e w n time made end asked x = record { whole = x.whole; second = second_done e w n end x.second; notes = x.notes; copy = x.copy; questions = x.questions }
 
 -- where a traversal stands after some steps, it stands by any smaller number too, whatever it wants
@@ -223,8 +223,3 @@ pub bounded_end : (e : Errand) (w : Walk) (s asked : ℕ) → IsFinished e w s a
 bounded_end e w s asked x = at_most e x.time x.made x.end s x.answered.whole x.number
 
 -- What was asked.
-
--- at its end the questions of a whole first pass were asked twice
-pub both_asked : (e : Errand) (w : Walk) (s asked : ℕ) → IsFinished e w s asked →
-    (time : ℕ) × (made : ℕ) × (end : Machine) × Whole e time made end × (2 * first_questions e time made ≤ asked)
-both_asked e w s asked x = (x.time, x.made, x.end, x.answered.whole, x.answered.questions)

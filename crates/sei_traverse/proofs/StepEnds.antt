@@ -25,7 +25,7 @@ use Rattle.sei_traverse.proofs.ClosesNext.ClosesNext.{Stays, Closes, Lacks}
 use Rattle.sei_traverse.specs.Phases.{send_want}
 use Rattle.sei_traverse.specs.Step.{Turn, turn, aborted, is_end, arrival, goes_from, goes_on}
 use Rattle.sei_traverse.specs.Struck.{IsAimed, SendStruck, StruckIn}
-use Rattle.sei_traverse.specs.Trusted.{IsFit}
+use Rattle.sei_traverse.specs.Trusted.{PassesGuard}
 use Rattle.sei_traverse.specs.Unstruck.{CleanIn}
 use Rattle.sei_traverse.proofs.ActKeeps.{IsLike}
 use Rattle.sei_traverse.proofs.Likeness.{send_like, wanted_like}
@@ -238,7 +238,7 @@ module _ (e : Errand) (after : List ℕ → Option (List ℕ)) (p : Phase) (same
 
 -- What is known behind Guard.
 
-pub knows_fit : (e : Errand) (w : Walk) (p : Phase) → (p ≡ Guard → ⊥) → Knows e w p → IsFit e
+pub knows_fit : (e : Errand) (w : Walk) (p : Phase) → (p ≡ Guard → ⊥) → Knows e w p → PassesGuard e
 knows_fit e w Guard n k = absurd (n refl)
 knows_fit e w Take n k = k
 knows_fit e w First n k = k.fit
@@ -308,7 +308,7 @@ moves_well e w lent steps asked p behind moved clean knows phase to =
     by_phase (inr n) = Lost (λ same. n (sym same ∙ gate)) (λ guard. knows_fit e w p behind knows)
 
 -- behind the last phase it is lost at each place but the end
-pub moves_at_end : (e : Errand) (w : Walk) (lent : Option (List ℕ)) (asked : ℕ) → IsFit e → w.gate.done ≡ 11 → SendStruck e w asked →
+pub moves_at_end : (e : Errand) (w : Walk) (lent : Option (List ℕ)) (asked : ℕ) → PassesGuard e → w.gate.done ≡ 11 → SendStruck e w asked →
     (phase : Phase) (to : Place) → StruckStands e asked (record w { place = to }) lent (arrival phase to w.gate.done)
 moves_at_end e w lent asked fit gate sends phase to =
     arrives_well e lent asked (record w { place = to }) phase to w.gate.done
@@ -323,7 +323,7 @@ StaysIn phase Refuses = ⊥
 StaysIn phase (Aborts cause) = ⊤
 
 -- at a place where the gate is not right a traversal stays lost; in the last phase it aborts
-pub lost_well : (e : Errand) (after : List ℕ → Option (List ℕ)) (before asked : ℕ) (p : Phase) → (p ≡ Guard → IsFit e) → (u : Walk) (words : List ℕ) (ending : Ending) →
+pub lost_well : (e : Errand) (after : List ℕ → Option (List ℕ)) (before asked : ℕ) (p : Phase) → (p ≡ Guard → PassesGuard e) → (u : Walk) (words : List ℕ) (ending : Ending) →
     StaysIn p ending → (p ≡ Done → (to : Place) → ending ≡ Leads to → ⊥) → u.gate.done ≢ phase_number p → WantsWell e (after words) before asked u →
     EndsWell e (StruckStands e) after before asked (honest (goes_from u words ending))
 lost_well e after before asked p fit u words (Leads to) stays never gate wants =

@@ -33,9 +33,9 @@ use Rattle.sei_traverse.specs.OnWay.{lent_words, LendsBucket, Lends}
 use Rattle.sei_traverse.specs.Phases.{reply_of, send_want, done_tree}
 use Rattle.sei_traverse.specs.Service.{Given, given_of, has_sealed_call}
 use Rattle.sei_traverse.specs.Step.{act_in, site_in}
-use Rattle.sei_traverse.specs.Struck.{IsAimed, Answers, On, SendStruck, StruckIn}
-use Rattle.sei_traverse.specs.Trusted.{IsFit, IsTrusted}
-use Rattle.sei_traverse.specs.Unstruck.{take_want, want_in, NextIn, IsLent, WantedAt, InTake, InEnter, InGive, InSend, InBoth, IsAnswered, CleanIn, IsFinished}
+use Rattle.sei_traverse.specs.Struck.{IsAimed, IsHonestResult, On, SendStruck, StruckIn}
+use Rattle.sei_traverse.specs.Trusted.{PassesGuard, IsTrusted}
+use Rattle.sei_traverse.specs.Unstruck.{take_want, want_in, NextIn, IsLent, WantedAt, InTake, InEnter, InGive, InSend, InBoth, HasOutput, CleanIn, IsFinished}
 use Rattle.sei_traverse.proofs.ActKeeps.{IsNoStore, Keeps, HonestlyKeeps, keeps, honestly_kept, OnlyCloses, closes_only, take_only}
 use Rattle.sei_traverse.proofs.Branches.{other}
 use Rattle.sei_traverse.proofs.Closes.{closes_then}
@@ -71,10 +71,10 @@ LostLaw = (g : Given) (now : ℕ) (phase : Phase) (w : Walk) (words : List ℕ) 
 
 -- what clean passes answer
 abbrev pub BothLaw : Errand → Type 0
-BothLaw e = (w : Walk) (words : List ℕ) (time made : ℕ) (end : Machine) (asked : ℕ) → IsAimed e w → InBoth e w (Some words) time made end asked → Answers e w words asked
+BothLaw e = (w : Walk) (words : List ℕ) (time made : ℕ) (end : Machine) (asked : ℕ) → IsAimed e w → InBoth e w (Some words) time made end asked → IsHonestResult e w words asked
 
 abbrev pub AnsweredLaw : Errand → Type 0
-AnsweredLaw e = (w : Walk) (time made : ℕ) (end : Machine) (asked : ℕ) → IsAimed e w → IsAnswered e w time made end asked → SendStruck e w asked
+AnsweredLaw e = (w : Walk) (time made : ℕ) (end : Machine) (asked : ℕ) → IsAimed e w → HasOutput e w time made end asked → SendStruck e w asked
 
 -- What is lent.
 
@@ -211,8 +211,8 @@ never_on g clock p index w words gate last to leads =
 
 -- The act of a clean traversal: it goes on, or to the end, or Guard refuses an input that is not fit.
 pub data CleanAct (e : Errand) (now : ℕ) (w : Walk) (loan : Option BucketWords) (steps asked : ℕ) (p : Phase) : Type 0 where
-  Goes : IsFit e → GoesOn e (given_with e loan) now p w (words_of loan) (left_of loan) steps asked → CleanAct e now w loan steps asked p
-  Ends : IsFit e → p ≡ Done → Finishes e (given_with e loan) now p w (words_of loan) steps asked → CleanAct e now w loan steps asked p
+  Goes : PassesGuard e → GoesOn e (given_with e loan) now p w (words_of loan) (left_of loan) steps asked → CleanAct e now w loan steps asked p
+  Ends : PassesGuard e → p ≡ Done → Finishes e (given_with e loan) now p w (words_of loan) steps asked → CleanAct e now w loan steps asked p
   Unfit : p ≡ Guard → IsUnfitInput e → site_in e.service w p w.place.index ≡ Some Plain → honest (act_in (given_with e loan) now p w.place.index w (words_of loan)) ≡ acted w (words_of loan) Refuses →
       CleanAct e now w loan steps asked p
 
@@ -224,7 +224,7 @@ CleanStands e steps number w lent Refused = (w.gate.done ≤ 1) × IsUnfitInput 
 CleanStands e steps number w lent (Aborted abort) = ⊥
 
 module _ (e : Errand) (trusted : IsTrusted e) where
-  trusted_errand : IsFit e → IsErrand e
+  trusted_errand : PassesGuard e → IsErrand e
   trusted_errand f = record {
     intact = f.intact;
     has = f.has;
@@ -235,14 +235,14 @@ module _ (e : Errand) (trusted : IsTrusted e) where
   }
 
   -- an input is fit, or it isn't
-  fit_or : IsFit e ⊎ IsUnfitInput e
+  fit_or : PassesGuard e ⊎ IsUnfitInput e
   fit_or = by_intact (is_intact e.sealed e.input) refl
     where
-      by_has : is_intact e.sealed e.input ≡ true → (b : Bool) → has_sealed_call (given_in e) e.sealed ≡ b → IsFit e ⊎ IsUnfitInput e
+      by_has : is_intact e.sealed e.input ≡ true → (b : Bool) → has_sealed_call (given_in e) e.sealed ≡ b → PassesGuard e ⊎ IsUnfitInput e
       by_has intact true has = inl (record { intact = intact; has = has; called = trusted.has_called has })
       by_has intact false has = inr (inr has)
 
-      by_intact : (b : Bool) → is_intact e.sealed e.input ≡ b → IsFit e ⊎ IsUnfitInput e
+      by_intact : (b : Bool) → is_intact e.sealed e.input ≡ b → PassesGuard e ⊎ IsUnfitInput e
       by_intact true intact = by_has intact (has_sealed_call (given_in e) e.sealed) refl
       by_intact false intact = inr (inl intact)
 
@@ -282,11 +282,11 @@ module _ (e : Errand) (now : ℕ) (loan : Option BucketWords) (w : Walk) (steps 
   last_only Enter clean f h = absurd h
 
 module _ (e : Errand) (trusted : IsTrusted e) (now : ℕ) (small : now < 2 ^ 64) (told : Follows e.clock now) (loan : Option BucketWords) (w : Walk) (nothing : w.want ≡ Nothing) (steps asked : ℕ) where
-  of_errand : (p : Phase) → IsFit e → CleanIn e w (lent_words loan) steps asked p → ActsOn e now w loan steps asked p → CleanAct e now w loan steps asked p
+  of_errand : (p : Phase) → PassesGuard e → CleanIn e w (lent_words loan) steps asked p → ActsOn e now w loan steps asked p → CleanAct e now w loan steps asked p
   of_errand p fit clean (inl a) = Goes fit a
   of_errand p fit clean (inr a) = Ends fit (last_only e now loan w steps asked p clean a.0 a.2) a.0
 
-  fits : (p : Phase) → IsFit e → Knows e w p → CleanIn e w (lent_words loan) steps asked p → LendsIn w.wanted p loan → CleanAct e now w loan steps asked p
+  fits : (p : Phase) → PassesGuard e → Knows e w p → CleanIn e w (lent_words loan) steps asked p → LendsIn w.wanted p loan → CleanAct e now w loan steps asked p
   fits p fit knows clean lends = of_errand p fit clean (acts_on e (trusted_errand e trusted fit) now small told w nothing steps asked loan p (lends_clean e w p loan knows lends) clean)
 
   in_guard : CleanIn e w (lent_words loan) steps asked Guard → LendsIn w.wanted Guard loan → CleanAct e now w loan steps asked Guard
@@ -296,7 +296,7 @@ module _ (e : Errand) (trusted : IsTrusted e) (now : ℕ) (small : now < 2 ^ 64)
       fails (inl h) = inl (ap (λ (s : Sealed). is_intact s e.input) clean.is.sealed ∙ h)
       fails (inr h) = inr (ap (λ (s : Sealed). has_sealed_call (given_with e loan) s) clean.is.sealed ∙ h)
 
-      by_fit : IsFit e ⊎ IsUnfitInput e → CleanAct e now w loan steps asked Guard
+      by_fit : PassesGuard e ⊎ IsUnfitInput e → CleanAct e now w loan steps asked Guard
       by_fit (inl fit) = fits Guard fit tt clean lends
       by_fit (inr unfit) = let r = refused (given_with e loan) w (words_of loan) clean.index (fails unfit) in Unfit refl unfit r.0 r.1
 
@@ -348,13 +348,13 @@ module _ (e : Errand) (trusted : IsTrusted e) (both : BothLaw e) (answered : Ans
   wanted_none none = nothing_wanted e (left_of loan a.left) asked a.walk none
 
   -- the answers of clean passes, as the bucket's words are wanted
-  wants_answers : LendsBucketOf w.wanted loan → OnlyCloses w (words_of loan) (acted a.walk a.left (Leads a.to)) → Answers e w (words_of loan) asked →
-      On (left_of loan a.left) (λ (words : List ℕ). Answers e a.walk words asked)
+  wants_answers : LendsBucketOf w.wanted loan → OnlyCloses w (words_of loan) (acted a.walk a.left (Leads a.to)) → IsHonestResult e w (words_of loan) asked →
+      On (left_of loan a.left) (λ (words : List ℕ). IsHonestResult e a.walk words asked)
   wants_answers lends only answers =
-      let here : Answers e a.walk a.left asked = subst (λ (words : List ℕ). Answers e a.walk words asked) (sym only.words_are) (answers_like e w a.walk only.like (words_of loan) asked answers) in
-      subst (λ (lent : Option (List ℕ)). On lent (λ (words : List ℕ). Answers e a.walk words asked)) (sym (is_lent w.wanted loan a.left lends)) here
+      let here : IsHonestResult e a.walk a.left asked = subst (λ (words : List ℕ). IsHonestResult e a.walk words asked) (sym only.words_are) (answers_like e w a.walk only.like (words_of loan) asked answers) in
+      subst (λ (lent : Option (List ℕ)). On lent (λ (words : List ℕ). IsHonestResult e a.walk words asked)) (sym (is_lent w.wanted loan a.left lends)) here
 
-  answers_here : (time made : ℕ) (end : Machine) → IsAimed e w → LendsBucketOf w.wanted loan → InBoth e w (lent_words loan) time made end asked → Answers e w (words_of loan) asked
+  answers_here : (time made : ℕ) (end : Machine) → IsAimed e w → LendsBucketOf w.wanted loan → InBoth e w (lent_words loan) time made end asked → IsHonestResult e w (words_of loan) asked
   answers_here time made end aimed lends i =
       both w (words_of loan) time made end asked aimed
       (subst (λ (lent : Option (List ℕ)). InBoth e w lent time made end asked) (lent_is_left loan ∙ is_lent w.wanted loan (words_of loan) lends) i)
@@ -366,7 +366,7 @@ module _ (e : Errand) (trusted : IsTrusted e) (both : BothLaw e) (answered : Ans
   abbrev Wanted_on : (p : Phase) → On_from p → Type 0
   Wanted_on p a = Wanted e a.walk (left_of loan a.left) asked a.walk.want
 
-  take_wanted : IsFit e → InTake e w steps asked → (a : On_from Take) → (index : ℕ) → w.place.index ≡ index → Wanted_on Take a
+  take_wanted : PassesGuard e → InTake e w steps asked → (a : On_from Take) → (index : ℕ) → w.place.index ≡ index → Wanted_on Take a
   take_wanted fit i a zero h = wanted_none e trusted both answered now loan w steps asked Take a (a.want ∙ ap (take_want e) h)
   take_wanted fit i a (suc index) h =
       let call : w.wanted ≡ e.call.bucket = subst (λ (n : ℕ). WantedAt e n w.wanted) h i.wanted in
@@ -398,7 +398,7 @@ module _ (e : Errand) (trusted : IsTrusted e) (both : BothLaw e) (answered : Ans
       wanted_this e trusted both answered now loan w steps asked Send a WantSend (a.want ∙ ap send_want h) (sends, λ none. let clash : [] ≡ byte ∷ bytes = sym none ∙ reply in let z : ⊥ = cc in z)
 
   -- what an act wants that goes on is so
-  goes_wanted : (p : Phase) → IsFit e → Knows e w p → CleanIn e w (lent_words loan) steps asked p → LendsIn w.wanted p loan → (a : On_from p) → Wanted_on p a
+  goes_wanted : (p : Phase) → PassesGuard e → Knows e w p → CleanIn e w (lent_words loan) steps asked p → LendsIn w.wanted p loan → (a : On_from p) → Wanted_on p a
   goes_wanted Guard fit knows i lends a = wanted_none e trusted both answered now loan w steps asked Guard a a.want
   goes_wanted Take fit knows i lends a = take_wanted fit i a w.place.index refl
   goes_wanted First fit knows i lends a = wanted_none e trusted both answered now loan w steps asked First a a.want
@@ -436,13 +436,13 @@ module _ (e : Errand) (trusted : IsTrusted e) (both : BothLaw e) (answered : Ans
   aims_on : (p : Phase) (a : On_from p) → IsAimed e w → IsNoStore p w.place.index → Knows e (record a.walk { place = a.to }) a.to.phase
   aims_on p a aimed n = aimed_knows e (record a.walk { place = a.to }) a.to.phase (record { fit = aimed.fit; wanted = wanted_kept e trusted both answered now loan w steps asked p a n ∙ aimed.wanted })
 
-  take_knows : IsFit e → InTake e w steps asked → (a : On_from Take) → (index : ℕ) → w.place.index ≡ index → Knows e (record a.walk { place = a.to }) a.to.phase
+  take_knows : PassesGuard e → InTake e w steps asked → (a : On_from Take) → (index : ℕ) → w.place.index ≡ index → Knows e (record a.walk { place = a.to }) a.to.phase
   take_knows fit i a zero h = subst (λ (q : Phase). Knows e (record a.walk { place = a.to }) q) (sym (subst (λ (n : ℕ). NextIn Take n a.to.phase) h a.next)) fit
   take_knows fit i a (suc index) h =
       aims_on Take a (record { fit = fit; wanted = subst (λ (n : ℕ). WantedAt e n w.wanted) h i.wanted }) (subst (λ (n : ℕ). IsNoStore Take n) (sym h) tt)
 
   -- what is known is known at the next place
-  pub knows_on : (p : Phase) → IsFit e → Knows e w p → CleanIn e w (lent_words loan) steps asked p → (a : On_from p) → Knows e (record a.walk { place = a.to }) a.to.phase
+  pub knows_on : (p : Phase) → PassesGuard e → Knows e w p → CleanIn e w (lent_words loan) steps asked p → (a : On_from p) → Knows e (record a.walk { place = a.to }) a.to.phase
   knows_on Guard fit knows i a = subst (λ (q : Phase). Knows e (record a.walk { place = a.to }) q) (sym a.next) fit
   knows_on Take fit knows i a = take_knows fit i a w.place.index refl
   knows_on First fit knows i a = aims_on First a knows tt
@@ -484,7 +484,7 @@ module _ (e : Errand) (trusted : IsTrusted e) (both : BothLaw e) (answered : Ans
   quiet_again Done a gate same = refl
 
   -- and so each is wanted once
-  pub goes_wants : (p : Phase) → IsFit e → Knows e w p → CleanIn e w (lent_words loan) steps asked p → LendsIn w.wanted p loan → (a : On_from p) → WantsWell e (left_of loan a.left) (phase_number p) asked a.walk
+  pub goes_wants : (p : Phase) → PassesGuard e → Knows e w p → CleanIn e w (lent_words loan) steps asked p → LendsIn w.wanted p loan → (a : On_from p) → WantsWell e (left_of loan a.left) (phase_number p) asked a.walk
   goes_wants p fit knows i lends a = record { wanted = goes_wanted p fit knows i lends a; once = by_phase (same_or a.to.phase p) }
     where
       gate : w.gate.done ≡ phase_number p

@@ -44,7 +44,7 @@ use Rattle.sei_traverse.specs.Bounds.{place_number, last_number, made_by, reache
 use Rattle.sei_traverse.specs.PassActs.{first_machine, second_machine, with_first, with_second, first_from, first_to, first_tree, second_from, second_to, second_tree}
 use Rattle.sei_traverse.specs.Phases.{guard_call, store_wanted, take_wanted, undone_as, undone_to, compared, entries_to, outputs_to, word_to, reply_of, copy_bytes, wire_to, verify_copy, send_want}
 use Rattle.sei_traverse.specs.Service.{Given, setting_in}
-use Rattle.sei_traverse.specs.State.{TraversalState, IsTraversal, begun, one_more}
+use Rattle.sei_traverse.specs.State.{TraversalState, IsTraversal, begun_traversal, one_more}
 use Rattle.sei_pass.specs.declared.given.Sealed.{Sealed}
 use Rattle.sei_traverse.specs.Step.{Turn, turn, act_in, act_tree, site_of, is_end, arrival, goes, goes_from, goes_on, once, unless_ended, twice, turn_as, turn_at, turn_tree, TimedTwice}
 use Rattle.sei_traverse.specs.Walks.{log_room}
@@ -346,7 +346,7 @@ bounded t begin now is s le = elim (cases_eq now.struck begin.struck) [
 pub steps_bounded : (t : TraversalState) (begin now : Counts) → IsTraversal t → StepsWithin t begin now → now.struck ≤ begin.struck + 1 → t.steps ≤ most_steps t.geometry
 steps_bounded t begin now is s le = omega (arith, bounded t begin now is s le)
 
-pub begun_within : (g : Geometry) (sealed : Sealed) (c : Counts) → StepsWithin (begun g sealed) c c
+pub begun_within : (g : Geometry) (sealed : Sealed) (c : Counts) → StepsWithin (begun_traversal g sealed) c c
 begun_within g sealed c = record { later = omega arith; unstruck = λ e. omega arith; struck = λ e. absurd (omega (arith, e)) }
 
 fits_of : (t : TraversalState) → IsTraversal t → Fits t.geometry t.walk

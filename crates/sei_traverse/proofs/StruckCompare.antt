@@ -25,7 +25,7 @@ use Rattle.sei_traverse.specs.declared.walk.Walk.{Walk}
 use Rattle.sei_traverse.specs.Acts.{Acted, acted, at, closes}
 use Rattle.sei_traverse.specs.Errand.{Errand}
 use Rattle.sei_traverse.specs.Phases.{compared, compare_tree, entries_to, outputs_to, reply_of}
-use Rattle.sei_traverse.specs.Struck.{IsAimed, Answers, WasHonest, WasMisread, On, SecondStruck, ComesOn, setting_on, start_on, CompareStruck, WordsStruck}
+use Rattle.sei_traverse.specs.Struck.{IsAimed, IsHonestResult, WasHonest, WasMisread, On, SecondStruck, ComesOn, setting_on, start_on, CompareStruck, WordsStruck}
 use Rattle.sei_traverse.specs.Struck.SecondStruck.{Good, Misread, Damaged, Struck}
 use Rattle.sei_traverse.specs.Struck.CompareStruck.{Fine, Doubt}
 use Rattle.sei_traverse.specs.Struck.WordsStruck.{Fine as FineWords, Doubt as DoubtWords}
@@ -41,7 +41,7 @@ use Rattle.sei_traverse.proofs.StruckRestore.{acts_well, closed_acts, closes_wel
 -- Walks with the same passes.
 
 -- an answer stays one where more questions were asked
-answers_like : (e : Errand) (w v : Walk) (words : List ℕ) (asked more : ℕ) → IsLike w v → v.second ≡ w.second → asked ≤ more → Answers e w words asked → Answers e v words more
+answers_like : (e : Errand) (w v : Walk) (words : List ℕ) (asked more : ℕ) → IsLike w v → v.second ≡ w.second → asked ≤ more → IsHonestResult e w words asked → IsHonestResult e v words more
 answers_like e w v words asked more like second le a = record {
   aimed = aimed_like e w v like a.aimed;
   time = a.time;
@@ -118,7 +118,7 @@ module _ (e : Errand) (trusted : IsTrusted e) (w : Walk) (words : List ℕ) (ask
       ∙ was.applies
 
   misread_answers : (end : Machine) → WasMisread e w end asked → (found : List ℕ) → SameOff w.first_log.items found e.taken → (n : ℕ) → ComesOn e w found words Halted n →
-      Answers e w words asked
+      IsHonestResult e w words asked
   misread_answers end was found off n comes =
       answers_whole e was.time was.made end was.whole trusted w words asked was.aimed was.notes (misread_words end was found off n comes)
       (sym outputs ∙ ap (λ (p : PassState). p.bytes.items) was.first) was.questions
@@ -167,7 +167,7 @@ module _ (e : Errand) (w : Walk) (words : List ℕ) (asked more : ℕ) (le : ask
 
   -- where all is well
 
-  module _ (a : Answers e w words asked) where
+  module _ (a : IsHonestResult e w words asked) where
     fine_next : CompareStruck e (record w { place = at Compare (w.place.index + 1) }) words more
     fine_next = Fine (answers_like e w _ words asked more (moved_like w (at Compare (w.place.index + 1))) refl le a)
 

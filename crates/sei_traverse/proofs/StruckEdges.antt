@@ -27,9 +27,9 @@ use Rattle.sei_traverse.proofs.ClosesNext.ClosesNext.{Stays, Closes, Lacks}
 use Rattle.sei_traverse.specs.Phases.{reply_of, guard_tree, guard_call, take_tree, take_wanted, store_wanted, send_want, enter_tree, give_tree, send_tree, done_tree}
 use Rattle.sei_traverse.specs.Service.{Given}
 use Rattle.sei_traverse.specs.Step.{act_in}
-use Rattle.sei_traverse.specs.Struck.{IsAimed, Answers, StruckInTake, EnterStruck, SendStruck, On, StruckIn}
+use Rattle.sei_traverse.specs.Struck.{IsAimed, IsHonestResult, StruckInTake, EnterStruck, SendStruck, On, StruckIn}
 use Rattle.sei_traverse.specs.Trusted.{IsTrusted}
-use Rattle.sei_traverse.specs.Unstruck.{InGuard, InTake, InBoth, IsAnswered, CleanIn}
+use Rattle.sei_traverse.specs.Unstruck.{InGuard, InTake, InBoth, HasOutput, CleanIn}
 use Rattle.sei_traverse.proofs.CleanAnswers.{answers_whole}
 use Rattle.sei_traverse.proofs.Closes.{closed_walk}
 use Rattle.sei_traverse.proofs.PhaseLaws.{lent_in, given_for, LeadsWell, ActsWell, PhaseLaws}
@@ -37,7 +37,7 @@ use Rattle.sei_traverse.proofs.PhaseLaws.LeadsWell.{Onward, ToEnd}
 
 -- What holds of a walk holds of another one with the same parts, behind more questions.
 
-pub answers_at : (e : Errand) (w v : Walk) (words : List ℕ) (asked more : ℕ) → v.wanted ≡ w.wanted → v.notes ≡ w.notes → v.second ≡ w.second → asked ≤ more → Answers e w words asked → Answers e v words more
+pub answers_at : (e : Errand) (w v : Walk) (words : List ℕ) (asked more : ℕ) → v.wanted ≡ w.wanted → v.notes ≡ w.notes → v.second ≡ w.second → asked ≤ more → IsHonestResult e w words asked → IsHonestResult e v words more
 answers_at e w v words asked more wanted notes second le a = record {
   aimed = record { fit = a.aimed.fit; wanted = wanted ∙ a.aimed.wanted };
   time = a.time;
@@ -136,13 +136,6 @@ pub guard_struck : (e : Errand) (now : ℕ) → now < 2 ^ 64 → Follows e.clock
 guard_struck e now small told w words steps asked n y nothing i knows run =
     always_struck (ActsWell e Guard (asked + n)) (guard_tree (given_for e Guard w.wanted) w words) y n (guard_always e (given_for e Guard w.wanted) w words steps asked (asked + n) nothing i) run
 
--- no struck traversal stands in Guard
-pub guard_honest : (e : Errand) (now : ℕ) (w : Walk) (words : List ℕ) (asked : ℕ) → w.want ≡ Nothing → w.gate.done ≡ phase_number Guard → w.sealed ≡ e.sealed →
-    StruckIn e w (lent_in Guard words) asked Guard →
-    ActsWell e Guard (asked + questions (act_in (given_for e Guard w.wanted) now Guard w.place.index w words))
-    (honest (act_in (given_for e Guard w.wanted) now Guard w.place.index w words))
-guard_honest e now w words asked nothing gate sealed s = absurd s
-
 -- Take
 
 take_at : (e : Errand) (w v : Walk) → v.first ≡ w.first → v.first_log ≡ w.first_log → v.notes ≡ w.notes → v.second ≡ w.second → v.second_log ≡ w.second_log → StruckInTake e w → StruckInTake e v
@@ -209,21 +202,21 @@ take_laws e trusted = record {
 -- Where both passes were honest
 
 pub both_answers : (e : Errand) → IsTrusted e → (w : Walk) (lent : Option (List ℕ)) (time made : ℕ) (end : Machine) (asked : ℕ) → IsAimed e w → InBoth e w lent time made end asked →
-    On lent (λ words. Answers e w words asked)
+    On lent (λ words. IsHonestResult e w words asked)
 both_answers e trusted w lent time made end asked aimed both =
-    subst (λ (o : Option (List ℕ)). On o (λ words. Answers e w words asked)) (sym both.words)
+    subst (λ (o : Option (List ℕ)). On o (λ words. IsHonestResult e w words asked)) (sym both.words)
     (answers_whole e time made end both.whole trusted w end.words asked aimed both.first.notes refl
     (ap (λ (p : PassState). p.bytes.items) both.second.second) (omega (arith, both.questions)))
 
 both_enter : (e : Errand) → IsTrusted e → (w : Walk) (lent : Option (List ℕ)) (time made : ℕ) (end : Machine) (asked : ℕ) → IsAimed e w → InBoth e w lent time made end asked → w.wire.items ≡ end.bytes.items →
     On lent (λ words. EnterStruck e w words asked)
 both_enter e trusted w lent time made end asked aimed both copy =
-    on_map (λ words. Answers e w words asked) (λ words. EnterStruck e w words asked) lent
+    on_map (λ words. IsHonestResult e w words asked) (λ words. EnterStruck e w words asked) lent
     (λ words a. record { answers = a; wire = copy ∙ sym (ap (λ (p : PassState). p.bytes.items) both.second.second) })
     (both_answers e trusted w lent time made end asked aimed both)
 
 -- in Send and Done the words are those of the end
-pub answers_answered : (e : Errand) → IsTrusted e → (w : Walk) (time made : ℕ) (end : Machine) (asked : ℕ) → IsAimed e w → IsAnswered e w time made end asked → SendStruck e w asked
+pub answers_answered : (e : Errand) → IsTrusted e → (w : Walk) (time made : ℕ) (end : Machine) (asked : ℕ) → IsAimed e w → HasOutput e w time made end asked → SendStruck e w asked
 answers_answered e trusted w time made end asked aimed i =
     let reply : reply_of w ≡ end.bytes.items = ap (λ (p : PassState). p.bytes.items) i.second.second in
     record {

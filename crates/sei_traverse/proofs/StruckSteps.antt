@@ -35,7 +35,7 @@ use Rattle.sei_traverse.specs.OnWay.{lent_words}
 use Rattle.sei_traverse.specs.Service.{Given, has_sealed_call}
 use Rattle.sei_traverse.specs.Step.{Turn, turn, aborted, arrival, act_in, act_tree, is_last, next_phase, site_of, skipped, goes, goes_on, once, twice, turn_as, turn_at}
 use Rattle.sei_traverse.specs.Struck.{SendStruck, StruckIn}
-use Rattle.sei_traverse.specs.Trusted.{IsFit, IsTrusted}
+use Rattle.sei_traverse.specs.Trusted.{PassesGuard, IsTrusted}
 use Rattle.sei_traverse.specs.Unstruck.{NextIn, CleanIn}
 use Rattle.sei_traverse.proofs.ActKeeps.{HonestlyKeeps, OnlyCloses}
 use Rattle.sei_traverse.proofs.EdgeActs.{Finishes}
@@ -59,8 +59,6 @@ module _ (e : Errand) (laws : (phase : Phase) → (phase ≡ Guard → ⊥) → 
   honest_law p = elim (guard_or p) [ inl h ↦ subst (HonestLaw e) (sym h) honest_guard | inr n ↦ (laws p n).honest_on ]
 
   module _ (clock : ℕ) (u : Walk) (words : List ℕ) where
-    abbrev here : Phase
-    here = u.place.phase
 
     abbrev its_act : Tree Acted
     its_act = act_tree (given_with e loan) clock u words
@@ -82,7 +80,7 @@ module _ (e : Errand) (laws : (phase : Phase) → (phase ≡ Guard → ⊥) → 
         raised e (StruckStands e) (left_of loan) (phase_number u.place.phase) (asked + questions its_act) (asked + questions (once (given_with e loan) clock u words)) (honest (once (given_with e loan) clock u words)) (omega (arith, once_asks))
         (subst (λ (x : Turn). EndsWell e (StruckStands e) (left_of loan) (phase_number u.place.phase) (asked + questions its_act) x) once_is ends)
 
-    module _ (lost : LostLaw) (gate : u.gate.done ≢ phase_number u.place.phase) (fit : u.place.phase ≡ Guard → IsFit e) (sealed : u.sealed ≡ e.sealed) where
+    module _ (lost : LostLaw) (gate : u.gate.done ≢ phase_number u.place.phase) (fit : u.place.phase ≡ Guard → PassesGuard e) (sealed : u.sealed ≡ e.sealed) where
       guards : u.place.phase ≡ Guard → (is_intact u.sealed e.input ≡ true) × (has_sealed_call (given_with e loan) u.sealed ≡ true)
       guards h = (ap (λ (s : Sealed). is_intact s e.input) sealed ∙ (fit h).intact, ap (λ (s : Sealed). has_sealed_call (given_with e loan) s) sealed ∙ (fit h).has)
 
@@ -135,7 +133,7 @@ module _ (e : Errand) (trusted : IsTrusted e) (laws : (phase : Phase) → (phase
       let run_on = subst (λ (h : Given). StruckRun (act_tree h now w words) y n) (sym right.given) run in
       act_well e (left_of loan) w.place.phase right.left (asked + n) y (struck_law w.place.phase now small told w words steps asked n y nothing lent knows run_on)
 
-  module _ (fit : IsFit e) (a : GoesOn e (given_with e loan) now w.place.phase w (words_of loan) (left_of loan) steps asked) where
+  module _ (fit : PassesGuard e) (a : GoesOn e (given_with e loan) now w.place.phase w (words_of loan) (left_of loan) steps asked) where
     abbrev next : Walk
     next = record a.walk { place = a.to }
 
@@ -227,7 +225,7 @@ module _ (e : Errand) (trusted : IsTrusted e) (laws : (phase : Phase) → (phase
         by_phase (inl same) = raised e (StruckStands e) (left_of loan) (phase_number w.place.phase) (asked + (a.more + questions (once g later a.walk a.left))) (asked + n) (honest (once g later a.walk a.left)) (omega (arith, le)) (same_again same)
         by_phase (inr apart) = raised e (StruckStands e) (left_of loan) (phase_number w.place.phase) (asked + 0) (asked + n) (honest (once g later a.walk a.left)) (omega arith) (lost_again apart)
 
-  module _ (fit : IsFit e) (last : w.place.phase ≡ Done) (f : Finishes e (given_with e loan) now w.place.phase w (words_of loan) steps asked) where
+  module _ (fit : PassesGuard e) (last : w.place.phase ≡ Done) (f : Finishes e (given_with e loan) now w.place.phase w (words_of loan) steps asked) where
     sends : SendStruck e (record f.walk { place = at Done 1 }) asked
     sends = end_sends e answered now loan w steps asked w.place.phase last knows f
 
@@ -373,7 +371,7 @@ module _ (e : Errand) (trusted : IsTrusted e) (laws : (phase : Phase) → (phase
   abbrev CleanEndsAs : ℕ → Turn → Type 0
   CleanEndsAs n x = EndsWell e (CleanStands e (suc steps)) (left_of loan) (phase_number w.place.phase) (asked + n) x
 
-  clean_goes : (fit : IsFit e) (a : GoesOn e (given_with e loan) now w.place.phase w (words_of loan) (left_of loan) steps asked) (n : ℕ) → a.more ≤ n → CleanEndsAs n (honest (goes a.walk a.left a.to))
+  clean_goes : (fit : PassesGuard e) (a : GoesOn e (given_with e loan) now w.place.phase w (words_of loan) (left_of loan) steps asked) (n : ℕ) → a.more ≤ n → CleanEndsAs n (honest (goes a.walk a.left a.to))
   clean_goes fit a n le =
       let u : Walk = record a.walk { place = a.to } in
       let lent = left_of loan a.left in
@@ -381,7 +379,7 @@ module _ (e : Errand) (trusted : IsTrusted e) (laws : (phase : Phase) → (phase
       comes_well e (CleanStands e (suc steps)) (left_of loan) (phase_number w.place.phase) (asked + n) (asked + a.more) asked a.walk a.left a.to (arrival a.walk.place.phase a.to a.walk.gate.done) (omega (arith, le)) (omega arith)
       (subst (λ (b : Bool). CleanStands e (suc steps) (asked + a.more) u lent (if b then arrival a.walk.place.phase (at Done 1) a.walk.gate.done else Went)) (sym no_end) (a.clean, knows_next fit a)) (wants fit a)
 
-  clean_ends : (fit : IsFit e) (last : w.place.phase ≡ Done) (f : Finishes e (given_with e loan) now w.place.phase w (words_of loan) steps asked) (n : ℕ) → CleanEndsAs n (honest (goes f.walk f.left (at Done 1)))
+  clean_ends : (fit : PassesGuard e) (last : w.place.phase ≡ Done) (f : Finishes e (given_with e loan) now w.place.phase w (words_of loan) steps asked) (n : ℕ) → CleanEndsAs n (honest (goes f.walk f.left (at Done 1)))
   clean_ends fit last f n =
       comes_well e (CleanStands e (suc steps)) (left_of loan) (phase_number w.place.phase) (asked + n) asked asked f.walk f.left (at Done 1) (arrival f.walk.place.phase (at Done 1) f.walk.gate.done) (omega arith) (omega arith)
       (subst (λ (done : ℕ). CleanStands e (suc steps) asked (record f.walk { place = at Done 1 }) (left_of loan f.left) (arrival f.walk.place.phase (at Done 1) done)) (sym f.finished.gate) (f.finished.gate, sends fit last f, f.finished)) (end_wants fit last f)

@@ -30,7 +30,7 @@ use Rattle.sei_traverse.specs.Acts.{acted, ends, at, closes}
 use Rattle.sei_traverse.specs.Comes.{at_time}
 use Rattle.sei_traverse.specs.Errand.{Errand, first_setting, first_start, Whole}
 use Rattle.sei_traverse.specs.Phases.{reply_of, word_to, copy_bytes, wire_to, verify_copy, verify_tree}
-use Rattle.sei_traverse.specs.Struck.{IsAimed, Answers, IsDoubted, WordsStruck, VerifyStruck, On}
+use Rattle.sei_traverse.specs.Struck.{IsAimed, IsHonestResult, IsDoubted, WordsStruck, VerifyStruck, On}
 use Rattle.sei_traverse.specs.Struck.WordsStruck.{Fine, Doubt}
 use Rattle.sei_traverse.specs.Trusted.{IsTrusted}
 use Rattle.sei_traverse.specs.Unstruck.{InBoth, InVerify}
@@ -43,7 +43,7 @@ use Rattle.sei_traverse.proofs.StruckEdges.{answers_at, on_map, not_less, no_les
 
 -- All is well already.
 
-module _ (e : Errand) (w : Walk) (words : List ℕ) (asked more : ℕ) (le : asked ≤ more) (nothing : w.want ≡ Nothing) (gate : w.gate.done ≡ 6) (answers : Answers e w words asked) (outputs : w.first.bytes.items ≡ reply_of w) where
+module _ (e : Errand) (w : Walk) (words : List ℕ) (asked more : ℕ) (le : asked ≤ more) (nothing : w.want ≡ Nothing) (gate : w.gate.done ≡ 6) (answers : IsHonestResult e w words asked) (outputs : w.first.bytes.items ≡ reply_of w) where
   -- an act that leads to another place of the phase
   fine_leads : (wire : Kept ℕ) (index : ℕ) → ActsWell e Verify more (acted (record w { wire = wire }) words (Leads (at Verify index)))
   fine_leads wire index = leads_well e Verify more (record w { wire = wire }) words (at Verify index) nothing gate
@@ -131,7 +131,7 @@ stands_within log place c st = elim (lt_or place (length log)) [
 ]
 
 -- where each word was read back, the words are those of the first pass
-all_read : (e : Errand) → IsTrusted e → (w : Walk) (words : List ℕ) (asked : ℕ) → IsDoubted e w words asked → w.first.bytes.items ≡ reply_of w → length w.second_log.items ≤ w.place.index → Answers e w words asked
+all_read : (e : Errand) → IsTrusted e → (w : Walk) (words : List ℕ) (asked : ℕ) → IsDoubted e w words asked → w.first.bytes.items ≡ reply_of w → length w.second_log.items ≤ w.place.index → IsHonestResult e w words asked
 all_read e trusted w words asked d outputs le =
     let there : applied w.second_log.items words ≡ words =
     applied_there w.second_log.items words (λ place c st. d.read place c (omega (arith, le, stands_within w.second_log.items place c st)) st) in
@@ -225,7 +225,7 @@ clean_outputs e w lent time made end asked both = ap (λ (p : PassState). p.byte
 verify_moved : (e : Errand) → IsTrusted e → (w : Walk) (lent : Option (List ℕ)) (steps asked index : ℕ) → InVerify e w lent steps asked → IsAimed e w →
     On lent (λ words. VerifyStruck e (record w { place = at Verify index }) words asked)
 verify_moved e trusted w lent steps asked index i aimed =
-    on_map (λ words. Answers e w words asked) (λ words. VerifyStruck e (record w { place = at Verify index }) words asked) lent
+    on_map (λ words. IsHonestResult e w words asked) (λ words. VerifyStruck e (record w { place = at Verify index }) words asked) lent
     (λ words a. record {
       stand = Fine (answers_at e w (record w { place = at Verify index }) words asked asked refl refl refl (not_less asked) a);
       outputs = clean_outputs e w lent i.time i.made i.end asked i.both;

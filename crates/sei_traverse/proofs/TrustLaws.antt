@@ -23,9 +23,9 @@ use Rattle.sei_traverse.specs.Comes.{renoted, renoted_end}
 use Rattle.sei_traverse.specs.declared.walk.Walk.{Walk}
 use Rattle.sei_traverse.specs.Errand.{Errand, IsErrand, first_setting, first_start, given_in}
 use Rattle.sei_traverse.specs.Service.{has_call, has_sealed_call, call_of}
-use Rattle.sei_traverse.specs.Sound.{IsServedBy, IsAnswered}
-use Rattle.sei_traverse.specs.Struck.{Answers}
-use Rattle.sei_traverse.specs.Trusted.{IsFit, second_setting, ReadsNotes, IsTrusted}
+use Rattle.sei_traverse.specs.Sound.{IsServedBy, IsModelAnswer}
+use Rattle.sei_traverse.specs.Struck.{IsHonestResult}
+use Rattle.sei_traverse.specs.Trusted.{PassesGuard, second_setting, ReadsNotes, IsTrusted}
 use Rattle.sei_traverse.proofs.ReadingLaws.{Says, SaysNothing, seal_or_nothing, seal_says, nothing_says, something_said, alike_run, halting_goes, alike_asked, untimed_run, untimed_stage}
 use Rattle.sei_traverse.proofs.SoundLaws.{ends_at}
 
@@ -54,21 +54,21 @@ module _ {B : Type 0} (Stands : List ℕ → B → Type 0) (answer : List ℕ �
       ap (has_call (e.service.calls e.input)) i.1 ∙ ap (λ o. has_call o (Some i.0)) c.1 ∙ lt-ltb i.0 c.0 c.2
 
   -- of a fit input, the index of its call
-  nth_of : IsFit e → (n : ℕ) × (read_of e.sealed.nth ≡ Some n)
+  nth_of : PassesGuard e → (n : ℕ) × (read_of e.sealed.nth ≡ Some n)
   nth_of fit = call_index (e.service.parsed e.input) (read_of e.sealed.nth) e.call fit.called
 
-  parsed_at : (fit : IsFit e) → e.service.parsed e.input (nth_of fit).0 ≡ Some e.call
+  parsed_at : (fit : PassesGuard e) → e.service.parsed e.input (nth_of fit).0 ≡ Some e.call
   parsed_at fit = ap (call_at (e.service.parsed e.input)) (sym (nth_of fit).1) ∙ fit.called
 
   -- the second pass by notes of a time and a slot
-  serves_noted : (fit : IsFit e) (time slot : ℕ) → time < 2 ^ 64 →
+  serves_noted : (fit : PassesGuard e) (time slot : ℕ) → time < 2 ^ 64 →
       Serves (second_setting e) (λ ws. Stands ws (answer e.input (nth_of fit).0 h.held time).0) (answer e.input (nth_of fit).0 h.held time).1 (renoted (notes_of time slot) (first_start e))
   serves_noted fit time slot small =
       h.handler.sound.serves e.input h.bytes (nth_of fit).0 e.call (parsed_at fit) (second_setting e)
       (record { statements_are = refl; rendered_are = refl; budget_is = refl; slots_are = refl; free_are = refl })
       (record { intact = fit.intact; parsed = fit.called; lent = refl }) e.taken h.held h.stands time small (notes_of time slot) (ByNotes refl slot refl)
 
-  module _ (fit : IsFit e) (notes : Notes) (end : Machine) (made : ℕ) (run : HonestRun (second_setting e) (renoted notes (first_start e)) end made) where
+  module _ (fit : PassesGuard e) (notes : Notes) (end : Machine) (made : ℕ) (run : HonestRun (second_setting e) (renoted notes (first_start e)) end made) where
     going : (n : ℕ) → IsGoing (after (second_setting e) (renoted notes (first_start e)) n).outcome
     going = halting_goes (second_setting e) (renoted notes (first_start e)) end made run
 
@@ -129,7 +129,7 @@ module _ {B : Type 0} (Stands : List ℕ → B → Type 0) (answer : List ℕ �
   }
 
   -- the words that are to be entered are those of the answer
-  pub is_answered : (w : Walk) (words : List ℕ) (asked : ℕ) (a : Answers e w words asked) → a.time < 2 ^ 64 → IsAnswered Stands answer h.held e w words
+  pub is_answered : (w : Walk) (words : List ℕ) (asked : ℕ) (a : IsHonestResult e w words asked) → a.time < 2 ^ 64 → IsModelAnswer Stands answer h.held e w words
   is_answered w words asked a small = by_end (serves_noted a.aimed.fit a.time a.slot small)
     where
       nth : ℕ
@@ -138,7 +138,7 @@ module _ {B : Type 0} (Stands : List ℕ → B → Type 0) (answer : List ℕ �
       start : Machine
       start = renoted (notes_of a.time a.slot) (first_start e)
 
-      answered : (end : Machine) → end ≡ a.end → Stands end.words (answer e.input nth h.held a.time).0 → end.bytes.items ≡ (answer e.input nth h.held a.time).1 → IsAnswered Stands answer h.held e w words
+      answered : (end : Machine) → end ≡ a.end → Stands end.words (answer e.input nth h.held a.time).0 → end.bytes.items ≡ (answer e.input nth h.held a.time).1 → IsModelAnswer Stands answer h.held e w words
       answered end same stands replied = record {
         nth = nth;
         reads = (nth_of a.aimed.fit).1;
@@ -148,10 +148,10 @@ module _ {B : Type 0} (Stands : List ℕ → B → Type 0) (answer : List ℕ �
         reply = a.reply ∙ ap (λ (m : Machine). m.bytes.items) (sym same) ∙ replied;
       }
 
-      by_end : Serves (second_setting e) (λ ws. Stands ws (answer e.input nth h.held a.time).0) (answer e.input nth h.held a.time).1 start → IsAnswered Stands answer h.held e w words
+      by_end : Serves (second_setting e) (λ ws. Stands ws (answer e.input nth h.held a.time).0) (answer e.input nth h.held a.time).1 start → IsModelAnswer Stands answer h.held e w words
       by_end (Well end steps s) = answered end (one_end (second_setting e) start end a.end steps a.made s.run a.run) s.held s.replied
       by_end (Unfit second m n bad) = absurd (halts_or_aborts (second_setting e) start m a.end NoNotes n a.made bad a.run.halts)
 
 -- what is trusted and fit is an errand
-pub fit_is_errand : (e : Errand) → IsTrusted e → IsFit e → IsErrand e
+pub fit_is_errand : (e : Errand) → IsTrusted e → PassesGuard e → IsErrand e
 fit_is_errand e t fit = record { intact = fit.intact; has = fit.has; called = fit.called; bucket = t.bucket fit; clock = t.clock; ends = t.ends fit }

@@ -53,19 +53,11 @@ module _ {S : Type 0} (gives : S → (q : Question) → Answer q → S → Type 
   pub still : (v : Walk) (left : List ℕ) (e : Ending) (s t : S) (y : Turn) → ((later : ℕ) → Runs gives (twice_from g later v left e) s t y) → Timed gives told (λ later. twice_from g later v left e) s t y
   still v left e s t y r = let a = some_answer told in record { now = a.0; answer = a.1; runs = r a.0 }
 
-  pub turn_once : (act : Act) (s m t : S) (y : Turn) → gives s (Often (record { place = w.place; act = act })) Once m →
-      Timed gives told (λ now. once g now w words) m t y → TimedTwice gives told (λ now later. turn_at g now later w words (Some act)) s t y
-  turn_once act s m t y h r = record { now = r.now; later = r.now; answer = r.answer; answer_later = r.answer; runs = (Once, m, h, r.runs) }
-
   pub turn_skip : (act : Act) (s m t : S) (y : Turn) → gives s (Often (record { place = w.place; act = act })) Skip m →
       Runs gives (goes w words (skipped w act)) m t y → TimedTwice gives told (λ now later. turn_at g now later w words (Some act)) s t y
   turn_skip act s m t y h r =
       let a = some_answer told in
       record { now = a.0; later = a.0; answer = a.1; answer_later = a.1; runs = (Skip, m, h, r) }
-
-  pub turn_twice : (act : Act) (s m t : S) (y : Turn) → gives s (Often (record { place = w.place; act = act })) Twice m →
-      TimedTwice gives told (λ now later. bound (act_tree g now w words) (twice g later)) m t y → TimedTwice gives told (λ now later. turn_at g now later w words (Some act)) s t y
-  turn_twice act s m t y h r = record { now = r.now; later = r.later; answer = r.answer; answer_later = r.answer_later; runs = (Twice, m, h, r.runs) }
 
   -- the place has this site, or none
   pub at_site : (o site : Option Act) (s t : S) (y : Turn) → o ≡ site → TimedTwice gives told (λ now later. turn_at g now later w words o) s t y →

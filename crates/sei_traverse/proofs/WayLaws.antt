@@ -11,14 +11,14 @@ use Rattle.sei_traverse.specs.Comes.{Agrees}
 use Rattle.sei_traverse.specs.Errand.{Errand, IsErrand, Whole, first_setting, first_start}
 use Rattle.sei_traverse.specs.OnWay.{IsClean, OnWay, AtEnd}
 use Rattle.sei_traverse.specs.Served.{HasReply, IsServed}
-use Rattle.sei_traverse.specs.State.{TraversalState, begun}
-use Rattle.sei_traverse.specs.Unstruck.{SecondIsDone, CleanIn, InGive, InSend, InDone, IsAnswered}
+use Rattle.sei_traverse.specs.State.{TraversalState, begun_traversal}
+use Rattle.sei_traverse.specs.Unstruck.{SecondIsDone, CleanIn, InGive, InSend, InDone, HasOutput}
 use Rattle.sei_traverse.specs.Walks.{log_room}
 use Rattle.sei_traverse.proofs.EdgeActs.{lends}
 use Rattle.sei_traverse.proofs.Settled.{bounded, bounded_end}
 use Rattle.sei_traverse.proofs.TimeLaws.{agrees_behind}
 
-pub way_begins : (e : Errand) (c : Counts) → OnWay e (begun e.geometry e.sealed) None c c
+pub way_begins : (e : Errand) (c : Counts) → OnWay e (begun_traversal e.geometry e.sealed) None c c
 way_begins e c = record {
   later = omega arith;
   clean = λ u. record {
@@ -81,7 +81,7 @@ by_noted e time made end notes whole is =
     subst (λ (n : Notes). Agrees n.now time) (sym is)
     (subst (λ (x : After). Agrees x.machine.notes.now time) whole.run.halts (agrees_behind (first_setting e) refl (first_start e) time made whole.small whole.small))
 
-has_reply : (e : Errand) (t : TraversalState) (begin now : Counts) (time made asked : ℕ) (end : Machine) → IsAnswered e t.walk time made end asked →
+has_reply : (e : Errand) (t : TraversalState) (begin now : Counts) (time made asked : ℕ) (end : Machine) → HasOutput e t.walk time made end asked →
     (now.asked < 2 ^ 128 - 1 → begin.asked + asked ≤ now.asked) → HasReply e t begin now
 has_reply e t begin now time made asked end a counted = record {
   time = time;

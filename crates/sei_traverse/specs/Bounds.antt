@@ -33,7 +33,8 @@ last_number g = 12 + 3 * log_room g
 abbrev pub made_by : Walk → ℕ
 made_by w = w.first.made + w.second.made
 
--- each step without a strike comes further: a statement more is made, or a place with a greater number is reached
+-- how far a walk has come: how many statements it made, and the number of its place. Each step without a strike adds to one
+-- of them, and takes from none
 abbrev pub reached : Geometry → Walk → ℕ
 reached g w = made_by w + place_number g w.place.phase w.place.index
 
@@ -41,13 +42,13 @@ reached g w = made_by w + place_number g w.place.phase w.place.index
 abbrev pub most_steps : Geometry → ℕ
 most_steps g = 2 * budget_of g + 6 * log_room g + 26
 
--- a traversal that began at these counts, and comes further with each step but the struck one
+-- it made no more steps than it has come far; with one strike, no more than what a strike may lead back on top of that
 pub record StepsWithin (t : TraversalState) (begin now : Counts) : Type 0 where
   pub later : begin.struck ≤ now.struck
   pub unstruck : now.struck ≡ begin.struck → t.steps ≤ reached t.geometry t.walk
   pub struck : now.struck ≡ begin.struck + 1 → t.steps ≤ reached t.geometry t.walk + last_number t.geometry + 1
 
--- behind a step: it comes further, or ended within the bound
+-- behind a step: the same, or where it ended, with one strike at most, the bound
 abbrev pub StepsAfter : TraversalState → Counts → Counts → State → Type 0
 StepsAfter t begin now Went = StepsWithin t begin now
 StepsAfter t begin now Finished = now.struck ≤ begin.struck + 1 → t.steps ≤ most_steps t.geometry

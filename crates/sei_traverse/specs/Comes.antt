@@ -24,7 +24,7 @@ renoted notes m = record m { notes = notes }
 abbrev pub renoted_end : Notes → After → After
 renoted_end notes x = record { machine = renoted notes x.machine; outcome = x.outcome }
 
--- a time of the clock that the noted one doesn't speak against
+-- a time of 64 bits that the noted one doesn't speak against
 abbrev pub Agrees : Option Coded → ℕ → Type 0
 Agrees None now = now < 2 ^ 64
 Agrees (Some note) now = (note ≡ sealed now) × (now < 2 ^ 64)

@@ -55,8 +55,8 @@ abbrev pub Follows : Option ℕ → ℕ → Type 0
 Follows None time = ⊤
 Follows (Some told) time = time ≡ told
 
--- the input is the sealed one, and has the call; the bucket is there; and whatever the clock answers, an honest first
--- pass on the words that were taken ends well
+-- the input is the sealed one, and has the call; the bucket is there; the clock tells numbers of 64 bits, where it tells
+-- them; and whatever it answers, an honest first pass on the words that were taken ends well
 pub record IsErrand (e : Errand) : Type 0 where
   pub intact : is_intact e.sealed e.input ≡ true
   pub has : has_sealed_call (given_in e) e.sealed ≡ true
@@ -65,7 +65,8 @@ pub record IsErrand (e : Errand) : Type 0 where
   pub clock : TellsTime e.clock
   pub ends : EndsAlways (first_setting e) (first_start e)
 
--- the whole first pass: at this time so many honest statements end with this machine
+-- the whole first pass: at this time, which is the told one where one is told, so many honest statements end with this
+-- machine, within the budget and in their order; the log rises, and the output code is that of the output bytes
 pub record Whole (e : Errand) (time steps : ℕ) (end : Machine) : Type 0 where
   pub small : time < 2 ^ 64
   pub told : Follows e.clock time

@@ -16,13 +16,13 @@ use Rattle.sei_traverse.specs.OnWay.{lent_words, LendsBucket, IsClean, IsCleanEn
 use Rattle.sei_traverse.specs.Phases.{reply_of, send_want}
 use Rattle.sei_traverse.specs.Service.{has_sealed_call}
 use Rattle.sei_traverse.specs.State.{TraversalState}
-use Rattle.sei_traverse.specs.Struck.{IsAimed, Answers, On, SendStruck, StruckIn}
-use Rattle.sei_traverse.specs.Trusted.{IsFit}
+use Rattle.sei_traverse.specs.Struck.{IsAimed, IsHonestResult, On, SendStruck, StruckIn}
+use Rattle.sei_traverse.specs.Trusted.{PassesGuard}
 
 -- behind Guard the input is known to be fit, and behind Take the wanted bucket to be the call's
 abbrev pub Knows : Errand → Walk → Phase → Type 0
 Knows e w Guard = ⊤
-Knows e w Take = IsFit e
+Knows e w Take = PassesGuard e
 Knows e w phase = IsAimed e w
 
 -- nothing struck it
@@ -30,11 +30,11 @@ pub record IsUnstruck (e : Errand) (t : TraversalState) (lent : Option (List ℕ
   pub clean : IsClean e t lent begin now
   pub knows : Knows e t.walk t.walk.place.phase
 
--- the gate closed as many phases as stand before the walk's phase; or another number of them, and then no phase is closed
--- any more. A lost traversal in Guard has a fit input, and so is not refused there
+-- the gate closed as many phases as stand before the walk's phase; or another number of them, and where that is in Guard the
+-- input passes its tests
 pub data StruckCase (e : Errand) (w : Walk) (lent : Option (List ℕ)) (asked : ℕ) : Type 0 where
   Right : w.gate.done ≡ phase_number w.place.phase → StruckIn e w lent asked w.place.phase → StruckCase e w lent asked
-  Lost : w.gate.done ≢ phase_number w.place.phase → (w.place.phase ≡ Guard → IsFit e) → StruckCase e w lent asked
+  Lost : w.gate.done ≢ phase_number w.place.phase → (w.place.phase ≡ Guard → PassesGuard e) → StruckCase e w lent asked
 
 -- one strike fell, and so many questions were asked at least
 pub record IsStruck (e : Errand) (t : TraversalState) (lent : Option (List ℕ)) (begin now : Counts) : Type 0 where
@@ -89,8 +89,8 @@ WantsBucket e loan want = ⊤
 abbrev pub Wanted : Errand → Walk → Option (List ℕ) → ℕ → Want → Type 0
 Wanted e w lent asked Nothing = ⊤
 Wanted e w lent asked (WantTake bucket) = (bucket ≡ w.wanted) × (bucket < e.geometry.buckets)
-Wanted e w lent asked WantEnter = On lent (λ words. Answers e w words asked)
-Wanted e w lent asked WantGive = On lent (λ words. Answers e w words asked)
+Wanted e w lent asked WantEnter = On lent (λ words. IsHonestResult e w words asked)
+Wanted e w lent asked WantGive = On lent (λ words. IsHonestResult e w words asked)
 Wanted e w lent asked WantSend = SendStruck e w asked × (reply_of w ≢ [])
 
 -- what is wanted where a phase is closed
@@ -123,8 +123,9 @@ pub record Wants (e : Errand) (t : TraversalState) (left : Option BucketWords) (
   pub counted : now.asked < 2 ^ 128 - 1 → begin.asked + asked ≤ now.asked
   pub twice : now.struck ≡ begin.struck → now.asked < 2 ^ 128 - 1 → begin.asked + 2 * asked ≤ now.asked
 
--- it is finished: all phases are closed, so Enter and Give were wanted, and Send where the reply is not empty; and without
--- a strike twice as many questions were asked, and it is at its clean end
+-- it is finished: all phases are closed, so Enter and Give were wanted, and Send where the reply is not empty; the reply and
+-- the copy are those of an honest run, and so many questions were asked at least; and without a strike twice as many, and it
+-- is at its clean end
 pub record IsAtEnd (e : Errand) (t : TraversalState) (begin now : Counts) : Type 0 where
   pub gate : t.walk.gate.done ≡ 11
   pub asked : ℕ
@@ -137,7 +138,7 @@ pub record IsAtEnd (e : Errand) (t : TraversalState) (begin now : Counts) : Type
 abbrev pub IsUnfitInput : Errand → Type 0
 IsUnfitInput e = (is_intact e.sealed e.input ≡ false) ⊎ (has_sealed_call (given_in e) e.sealed ≡ false)
 
--- it was refused before Take was wanted, for its input or for a strike
+-- it was refused before Take was closed, for its input or for a strike
 pub record IsRefused (e : Errand) (t : TraversalState) (begin now : Counts) : Type 0 where
   pub gate : t.walk.gate.done ≤ 1
   pub cause : IsUnfitInput e ⊎ (begin.struck < now.struck)

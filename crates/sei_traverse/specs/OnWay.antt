@@ -33,7 +33,7 @@ Lends e Send loan = loan ≡ None
 Lends e Done loan = loan ≡ None
 Lends e phase loan = LendsBucket e loan
 
--- a step's clock is the errand's: it tells the same, or the errand says nothing of what it tells
+-- a step's clock is the errand's: it tells the same, or the errand says nothing of what it tells, and that has 64 bits
 abbrev pub TellsAs : Option ℕ → Option ℕ → Type 0
 TellsAs None told = TellsTime told
 TellsAs (Some time) told = told ≡ Some time

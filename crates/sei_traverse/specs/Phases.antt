@@ -88,7 +88,7 @@ word_to w words index (Err cause) = ends w words (Aborts cause)
 abbrev pub reply_of : Walk → List ℕ
 reply_of w = w.second.bytes.items
 
--- the copy is the reply, its first byte stored through the core
+-- the copy is the reply, its first byte the low eight bits of what the core stores; an empty reply has an empty copy
 abbrev pub copy_bytes : Walk → List ℕ → ℕ → List ℕ → Tree Acted
 copy_bytes w words index [] = ends (record w { wire = emptied w.wire }) words (Leads (at Verify (index + 1)))
 copy_bytes w words index (byte ∷ bytes) =

@@ -22,8 +22,8 @@ space_of g = record {
   is_free = is_free g;
 }
 
--- a sound handler serves the errand: the input is bytes, the errand's call is the sealed one, where there is one, and the
--- words that were taken stand for something of which the handler gives the answer
+-- a sound handler serves the errand: the input is bytes, the errand's call is the sealed one, where there is one, the clock
+-- tells numbers of 64 bits, where it tells them, and the words that were taken stand for something
 pub record IsServedBy {B : Type 0} (Stands : List ℕ → B → Type 0) (answer : List ℕ → ℕ → B → ℕ → B × List ℕ) (e : Errand) : Type 0 where
   pub handler : IsSoundHandler e.service.statements e.service.calls e.service.parsed e.service.rendered (space_of e.geometry) e.geometry.buckets Stands answer
   pub bytes : All (λ b. b < 256) e.input
@@ -33,7 +33,7 @@ pub record IsServedBy {B : Type 0} (Stands : List ℕ → B → Type 0) (answer 
   pub stands : Stands e.taken held
 
 -- the words stand for what the answer to the sealed call leaves at the noted time, and the reply is the answer's
-pub record IsAnswered {B : Type 0} (Stands : List ℕ → B → Type 0) (answer : List ℕ → ℕ → B → ℕ → B × List ℕ) (held : B) (e : Errand) (w : Walk) (words : List ℕ) : Type 0 where
+pub record IsModelAnswer {B : Type 0} (Stands : List ℕ → B → Type 0) (answer : List ℕ → ℕ → B → ℕ → B × List ℕ) (held : B) (e : Errand) (w : Walk) (words : List ℕ) : Type 0 where
   pub nth : ℕ
   pub reads : read_of e.sealed.nth ≡ Some nth
   pub time : ℕ

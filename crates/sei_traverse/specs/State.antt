@@ -43,18 +43,18 @@ begun_walk g sealed = record {
   wire = empty_kept ℕ (bytes_room g);
 }
 
-abbrev pub begun : Geometry → Sealed → TraversalState
-begun g sealed = record { walk = begun_walk g sealed; geometry = g; steps = 0; running = true }
+abbrev pub begun_traversal : Geometry → Sealed → TraversalState
+begun_traversal g sealed = record { walk = begun_walk g sealed; geometry = g; steps = 0; running = true }
 
 -- one step more; at the last value of a u64 the number stays
 abbrev pub one_more : ℕ → ℕ
 one_more steps = min (steps + 1) (2 ^ 64 - 1)
 
-abbrev pub goes_on : State → Bool
-goes_on Went = true
-goes_on Finished = false
-goes_on Refused = false
-goes_on (Aborted abort) = false
+abbrev pub is_running : State → Bool
+is_running Went = true
+is_running Finished = false
+is_running Refused = false
+is_running (Aborted abort) = false
 
 -- the time that was noted, where one was and it reads
 abbrev pub noted_time : TraversalState → Option ℕ

@@ -165,7 +165,7 @@ turn_tree g now later w words =
     let v : Walk = record w { want = Nothing } in
     turn_at g now later v words (site_of g.service v)
 
--- for some answers of the clock, the work goes like this
+-- for one answer of the clock the work goes like this; and for two, where the clock is asked again
 pub record Timed {S R : Type 0} (gives : S → (q : Question) → Answer q → S → Type 0) (told : Option ℕ) (tree : ℕ → Tree R) (s t : S) (x : R) : Type 0 where
   pub now : ℕ
   pub answer : IsAnswer told now

@@ -21,7 +21,7 @@ use Rattle.sei_traverse.specs.Errand.{Errand, first_setting, first_start, Follow
 use Rattle.sei_traverse.specs.PassActs.{asked_behind, pass_of, first_machine, second_machine}
 use Rattle.sei_traverse.specs.Phases.{reply_of}
 use Rattle.sei_traverse.specs.Service.{given_of, setting_in}
-use Rattle.sei_traverse.specs.Trusted.{IsFit, second_setting}
+use Rattle.sei_traverse.specs.Trusted.{PassesGuard, second_setting}
 use Rattle.sei_traverse.specs.Unstruck.{FirstIsNew, SecondIsNew, FirstIsDone, first_questions}
 use Rattle.sei_traverse.specs.Walks.{log_room}
 
@@ -31,7 +31,7 @@ relogged log m = record m { log = log }
 
 -- the input is fit, and the wanted bucket is the call's
 pub record IsAimed (e : Errand) (w : Walk) : Type 0 where
-  pub fit : IsFit e
+  pub fit : PassesGuard e
   pub wanted : w.wanted ≡ e.call.bucket
 
 -- the questions of an honest run of so many statements, by a time and a slot, as a first pass: those of its statements,
@@ -41,7 +41,7 @@ run_questions e time slot made = first_asked (second_setting e) (renoted (notes_
 
 -- what holds of each traversal that comes to Enter: the words and the reply are those that an honest run on the
 -- words that were taken leaves, by the noted time and some slot, and at least as many questions were asked as it asks
-pub record Answers (e : Errand) (w : Walk) (words : List ℕ) (asked : ℕ) : Type 0 where
+pub record IsHonestResult (e : Errand) (w : Walk) (words : List ℕ) (asked : ℕ) : Type 0 where
   pub aimed : IsAimed e w
   pub time : ℕ
   pub slot : ℕ
@@ -55,8 +55,9 @@ pub record Answers (e : Errand) (w : Walk) (words : List ℕ) (asked : ℕ) : Ty
 
 -- the first pass
 
--- one old word was misread, and logged so: but for its log all is as in an honest pass, whose log is not longer than this
--- one
+-- one old word was misread, and logged so: but for its log all is as in an honest pass, at a time that the clock may tell,
+-- whose log is not longer than this one. This log leads from the words that were taken to those that stand, and changed no
+-- others
 pub record IsMisread (e : Errand) (w : Walk) (words : List ℕ) (asked : ℕ) : Type 0 where
   pub aimed : IsAimed e w
   pub log : Kept Change
@@ -102,7 +103,7 @@ pub record WasHonest (e : Errand) (w : Walk) (end : Machine) (asked : ℕ) : Typ
   pub first : FirstIsDone e w end
   pub questions : first_questions e time made ≤ asked
 
--- it was honest but for one old word in its log
+-- it was honest but for its log, which leads from the words that were taken to the same words
 pub record WasMisread (e : Errand) (w : Walk) (end : Machine) (asked : ℕ) : Type 0 where
   pub aimed : IsAimed e w
   pub time : ℕ
@@ -139,8 +140,8 @@ setting_on e bucket = setting_in (given_of e.service e.input e.geometry (Some bu
 abbrev pub ComesOn : Errand → Walk → List ℕ → List ℕ → Outcome → ℕ → Type 0
 ComesOn e w found words o n = after (setting_on e w.wanted) (start_on e found w.notes) n ≡ record { machine = second_machine w words; outcome = o }
 
--- it is honest on the words that were taken, and has asked no less than a first pass would; or on words that differ from
--- them; or it was struck itself, and the first one was honest
+-- it is honest on the words that were taken, and has asked no less than a first pass would; or on words that a misread log
+-- or a change which was not undone left; or it was struck itself, and the first one was honest
 pub data SecondStruck (e : Errand) (w : Walk) (words : List ℕ) (o : Outcome) (asked : ℕ) : Type 0 where
   Good : (n : ℕ) → ComesOn e w e.taken words o n → first_asked (setting_on e w.wanted) (start_on e e.taken w.notes) n + asked_behind o ≤ asked → SecondStruck e w words o asked
   Misread : (end : Machine) → WasMisread e w end asked → (found : List ℕ) → SameOff w.first_log.items found e.taken → (n : ℕ) → ComesOn e w found words o n → SecondStruck e w words o asked
@@ -152,13 +153,13 @@ pub data SecondStruck (e : Errand) (w : Walk) (words : List ℕ) (o : Outcome) (
 
 -- all is well already; or the second pass ended as it may, and the changes below the index are the same in both logs
 pub data CompareStruck (e : Errand) (w : Walk) (words : List ℕ) (asked : ℕ) : Type 0 where
-  Fine : Answers e w words asked → CompareStruck e w words asked
+  Fine : IsHonestResult e w words asked → CompareStruck e w words asked
   Doubt : SecondStruck e w words Halted asked →
       ((place : ℕ) → place < w.place.index → slice_get w.first_log.items place ≡ slice_get w.second_log.items place) → CompareStruck e w words asked
 
 -- the reading back
 
--- the second pass was struck, and came to the log and the output of the first; so many words hold what its log says
+-- the second pass was struck, and came to the log of the first; so many words hold what its log says
 pub record IsDoubted (e : Errand) (w : Walk) (words : List ℕ) (asked : ℕ) : Type 0 where
   pub end : Machine
   pub was : WasHonest e w end asked
@@ -167,7 +168,7 @@ pub record IsDoubted (e : Errand) (w : Walk) (words : List ℕ) (asked : ℕ) : 
   pub read : (place : ℕ) (c : Change) → place < w.place.index → Stands w.second_log.items place c → slice_get words c.address ≡ Some c.becomes
 
 pub data WordsStruck (e : Errand) (w : Walk) (words : List ℕ) (asked : ℕ) : Type 0 where
-  Fine : Answers e w words asked → WordsStruck e w words asked
+  Fine : IsHonestResult e w words asked → WordsStruck e w words asked
   Doubt : IsDoubted e w words asked → WordsStruck e w words asked
 
 pub record VerifyStruck (e : Errand) (w : Walk) (words : List ℕ) (asked : ℕ) : Type 0 where
@@ -177,7 +178,7 @@ pub record VerifyStruck (e : Errand) (w : Walk) (words : List ℕ) (asked : ℕ)
 -- behind them
 
 pub record EnterStruck (e : Errand) (w : Walk) (words : List ℕ) (asked : ℕ) : Type 0 where
-  pub answers : Answers e w words asked
+  pub answers : IsHonestResult e w words asked
   pub wire : w.wire.items ≡ reply_of w
 
 pub record SendStruck (e : Errand) (w : Walk) (asked : ℕ) : Type 0 where

@@ -14,7 +14,7 @@ use Rattle.sei_traverse.specs.Errand.{Errand, given_in, first_setting, first_sta
 use Rattle.sei_traverse.specs.Service.{has_sealed_call, call_of}
 
 -- the input is the sealed one, and has the sealed call, which is the errand's
-pub record IsFit (e : Errand) : Type 0 where
+pub record PassesGuard (e : Errand) : Type 0 where
   pub intact : is_intact e.sealed e.input ≡ true
   pub has : has_sealed_call (given_in e) e.sealed ≡ true
   pub called : call_of (given_in e) e.sealed ≡ Some e.call
@@ -40,10 +40,10 @@ pub record IsTrusted (e : Errand) : Type 0 where
   -- the calls of an input are those that are below their number
   pub called_has : (p : Parsed) → call_of (given_in e) e.sealed ≡ Some p → has_sealed_call (given_in e) e.sealed ≡ true
   -- the call of a fit input is of a bucket that is there
-  pub bucket : IsFit e → e.call.bucket < e.geometry.buckets
+  pub bucket : PassesGuard e → e.call.bucket < e.geometry.buckets
   -- where the clock tells its answer, that is a number of 64 bits
   pub clock : TellsTime e.clock
   -- each honest first pass of a fit input ends well, whatever the clock answers
-  pub ends : IsFit e → EndsAlways (first_setting e) (first_start e)
+  pub ends : PassesGuard e → EndsAlways (first_setting e) (first_start e)
   -- each second pass of a fit input that halts has read its notes
-  pub reads : IsFit e → (notes : Notes) (end : Machine) (made : ℕ) → HonestRun (second_setting e) (renoted notes (first_start e)) end made → ReadsNotes e notes end made
+  pub reads : PassesGuard e → (notes : Notes) (end : Machine) (made : ℕ) → HonestRun (second_setting e) (renoted notes (first_start e)) end made → ReadsNotes e notes end made

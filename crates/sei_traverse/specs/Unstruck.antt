@@ -199,7 +199,7 @@ pub record InGive (e : Errand) (w : Walk) (lent : Option (List ℕ)) (steps aske
   pub number : steps ≤ before_enter made (length end.log.items) + 1
 
 -- the reply is made, and the copy for the wire
-pub record IsAnswered (e : Errand) (w : Walk) (time made : ℕ) (end : Machine) (asked : ℕ) : Type 0 where
+pub record HasOutput (e : Errand) (w : Walk) (time made : ℕ) (end : Machine) (asked : ℕ) : Type 0 where
   pub whole : Whole e time made end
   pub second : SecondIsDone e w end
   pub notes : w.notes ≡ end.notes
@@ -217,7 +217,7 @@ pub record InSend (e : Errand) (w : Walk) (lent : Option (List ℕ)) (steps aske
   pub time : ℕ
   pub made : ℕ
   pub end : Machine
-  pub answered : IsAnswered e w time made end asked
+  pub answered : HasOutput e w time made end asked
   pub index : w.place.index ≡ 0
   pub words : StillAre lent end.words
   pub number : steps ≤ before_enter made (length end.log.items) + 2
@@ -227,7 +227,7 @@ pub record InDone (e : Errand) (w : Walk) (steps asked : ℕ) : Type 0 where
   pub time : ℕ
   pub made : ℕ
   pub end : Machine
-  pub answered : IsAnswered e w time made end asked
+  pub answered : HasOutput e w time made end asked
   pub index : w.place.index ≡ 0
   pub number : steps ≤ before_enter made (length end.log.items) + 3
 
@@ -238,7 +238,7 @@ pub record IsFinished (e : Errand) (w : Walk) (steps asked : ℕ) : Type 0 where
   pub time : ℕ
   pub made : ℕ
   pub end : Machine
-  pub answered : IsAnswered e w time made end asked
+  pub answered : HasOutput e w time made end asked
   pub number : steps ≤ before_enter made (length end.log.items) + 4
 
 abbrev pub CleanIn : Errand → Walk → Option (List ℕ) → ℕ → ℕ → Phase → Type 0

@@ -1,5 +1,5 @@
 //! The acts that compare the two passes.
-ghost use Rattle.std.specs.Prelude.{◌≡◌, ℕ, ◌+◌, ◌^◌, ◌<◌, List, length};
+ghost use Rattle.std.specs.Prelude.{◌≡◌, ℕ, ◌+◌, ◌^◌, ◌<◌, List};
 ghost use Rattle.sei_compare.specs.Comparing.{entry_tree, codes_tree};
 ghost use Rattle.sei_fault.specs.Tree.{Runs, bound};
 ghost use Rattle.sei_traverse.specs.Walks.{Stays};

@@ -10,10 +10,10 @@ ghost use Rattle.sei_traverse.specs.Errand.{Errand, IsErrand};
 ghost use Rattle.sei_traverse.specs.Facts.{Facts};
 ghost use Rattle.sei_traverse.specs.OnWay.{OnWay, AtEnd};
 ghost use Rattle.sei_traverse.specs.Served.{IsServed, HasReply};
-ghost use Rattle.sei_traverse.specs.Sound.{IsServedBy, IsAnswered};
-ghost use Rattle.sei_traverse.specs.State.{TraversalState, IsTraversal, begun};
-ghost use Rattle.sei_traverse.specs.Struck.{Answers};
-ghost use Rattle.sei_traverse.specs.Trusted.{IsTrusted, IsFit};
+ghost use Rattle.sei_traverse.specs.Sound.{IsServedBy, IsModelAnswer};
+ghost use Rattle.sei_traverse.specs.State.{TraversalState, IsTraversal, begun_traversal};
+ghost use Rattle.sei_traverse.specs.Struck.{IsHonestResult};
+ghost use Rattle.sei_traverse.specs.Trusted.{IsTrusted, PassesGuard};
 ghost use Rattle.sei_traverse.specs.Walks.{log_room};
 ghost use Rattle.sei_traverse.specs.declared.walk.Walk.{Walk};
 
@@ -22,7 +22,7 @@ use sei_stmt::Modeled;
 /// A traversal that begins for an errand is on its way. It stays so where the words that were taken
 /// are lent when they are wanted, and where they are lent no more once the bucket is given back.
 pub fn traversals_are_on_their_way()
-    ensures begins { (e : Errand) (c : Counts) → OnWay e (begun e.geometry e.sealed) None c c }
+    ensures begins { (e : Errand) (c : Counts) → OnWay e (begun_traversal e.geometry e.sealed) None c c }
     ensures lends { (e : Errand) (t : TraversalState) (begin now : Counts) → IsErrand e → t.walk.place.phase ≡ Phase.First →
         OnWay e t None begin now → OnWay e t (Some e.taken) begin now }
     ensures gives { (e : Errand) (t : TraversalState) (words : List ℕ) (begin now : Counts) → t.walk.place.phase ≡ Phase.Send →
@@ -43,7 +43,7 @@ pub fn traversals_end()
 /// phases then, and nine. Where no strike fell, it is on its way. That it stays known behind each step
 /// is the clause `isolated` of `Traversal::step`.
 pub fn faults_are_isolated()
-    ensures begins { (e : Errand) (c : Counts) → Facts e (begun e.geometry e.sealed) None c c }
+    ensures begins { (e : Errand) (c : Counts) → Facts e (begun_traversal e.geometry e.sealed) None c c }
     ensures lends { (e : Errand) (t : TraversalState) (begin now : Counts) → IsTrusted e → t.walk.gate.done ≡ 2 →
         Facts e t None begin now → Facts e t (Some e.taken) begin now }
     ensures gives { (e : Errand) (t : TraversalState) (words : List ℕ) (begin now : Counts) → t.walk.gate.done ≡ 9 →
@@ -54,7 +54,7 @@ pub fn faults_are_isolated()
 /// With one strike at most since it began, a traversal makes no more steps than its bound, whatever
 /// its handler and its input are.
 pub fn steps_are_bounded()
-    ensures begins { (g : Geometry) (sealed : Sealed) (c : Counts) → StepsWithin (begun g sealed) c c }
+    ensures begins { (g : Geometry) (sealed : Sealed) (c : Counts) → StepsWithin (begun_traversal g sealed) c c }
     ensures bounded { (t : TraversalState) (begin now : Counts) → IsTraversal t → StepsWithin t begin now → now.struck ≤ begin.struck + 1 →
         t.steps ≤ most_steps t.geometry }
 {}
@@ -80,7 +80,7 @@ pub fn both_passes_are_made()
 /// the words stand for the state that it leaves at the noted time, and the reply is the answer's.
 pub fn sound_handlers_are_trusted<H: Modeled>()
     ensures trusted { (h : H) (e : Errand) → IsServedBy (H.stands h) (H.answer h) e → IsTrusted e }
-    ensures errand { (h : H) (e : Errand) → IsServedBy (H.stands h) (H.answer h) e → IsFit e → IsErrand e }
+    ensures errand { (h : H) (e : Errand) → IsServedBy (H.stands h) (H.answer h) e → PassesGuard e → IsErrand e }
     ensures answered { (h : H) (e : Errand) (s : IsServedBy (H.stands h) (H.answer h) e) (w : Walk) (words : List ℕ) (asked : ℕ) →
-        (a : Answers e w words asked) → a.time < 2 ^ 64 → IsAnswered (H.stands h) (H.answer h) s.held e w words }
+        (a : IsHonestResult e w words asked) → a.time < 2 ^ 64 → IsModelAnswer (H.stands h) (H.answer h) s.held e w words }
 {}

@@ -20,5 +20,5 @@ pub use laws::{
     both_passes_are_made, faults_are_isolated, sound_handlers_are_trusted, steps_are_bounded,
     traversals_are_on_their_way, traversals_end,
 };
-pub use traversal::Traversal;
+pub use traversal::{Traversal, most_steps};
 pub use turned::{Abort, State, Turned, Want};

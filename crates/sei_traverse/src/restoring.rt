@@ -1,5 +1,5 @@
 //! The acts that undo the first pass.
-ghost use Rattle.std.specs.Prelude.{◌≡◌, ℕ, ◌+◌, ◌-◌, ◌^◌, ◌<◌, length, slice_get};
+ghost use Rattle.std.specs.Prelude.{◌≡◌, ◌+◌, ◌-◌, ◌^◌, ◌<◌, length, slice_get};
 ghost use Rattle.sei_fault.specs.Tree.{Runs, bound};
 ghost use Rattle.sei_restore.specs.Undoing.{undo_at};
 ghost use Rattle.sei_words.specs.Loan.{words_of, place_of};

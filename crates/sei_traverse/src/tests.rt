@@ -2,7 +2,7 @@
 ghost use Rattle.std.specs.Prelude.{◌≡◌, true, false};
 ghost use Rattle.std.specs.Bool.{OnTrue, OnFalse};
 ghost use Rattle.sei_fault.specs.Counts.{counted};
-ghost use Rattle.sei_traverse.specs.State.{goes_on};
+ghost use Rattle.sei_traverse.specs.State.{is_running};
 
 use super::*;
 use mc_model::Geometry;
@@ -216,7 +216,7 @@ fn turn<K: Core>(
 ) -> Turned
     requires running { traversal.old.running ≡ true }
     requires laid_out { words.old.geometry ≡ traversal.old.geometry }
-    ensures running { traversal.new.running ≡ goes_on result.state }
+    ensures running { traversal.new.running ≡ is_running result.state }
     ensures laid_out { words.new.geometry ≡ traversal.new.geometry }
 {
     let clock = SetClock { at: 1000 };

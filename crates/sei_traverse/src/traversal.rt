@@ -1,27 +1,27 @@
 //! A traversal.
-ghost use Rattle.std.specs.Prelude.{◌≡◌, ℕ, ◌+◌, ◌-◌, ◌^◌, ◌<◌, ◌≤◌, IfOk, IfSome, length, min, true, Some, None};
+ghost use Rattle.std.specs.Prelude.{◌≡◌, ℕ, ◌+◌, ◌-◌, ◌^◌, ◌<◌, ◌≤◌, IfOk, IfSome, length, min, true, false, Some, None};
 ghost use Rattle.mc_model.specs.Server.{IsValid};
 ghost use Rattle.sei_code.specs.declared.modes.Mode.{Mode};
 ghost use Rattle.sei_fault.specs.Counts.{Counts};
 ghost use Rattle.sei_stmt.specs.Handling.{parsed_words};
 ghost use Rattle.sei_words.specs.Exits.{lent_at, lent_left};
 ghost use Rattle.sei_words.specs.Loan.{words_of, bucket_of, place_of, IsOf};
-ghost use Rattle.sei_pass.specs.Setting.{is_intact, sealed_call};
+ghost use Rattle.sei_pass.specs.Setting.{sealed_call};
 ghost use Rattle.sei_pass.specs.State.{input_room, bytes_room};
-ghost use Rattle.sei_traverse.specs.Bounds.{StepsWithin, StepsAfter};
+ghost use Rattle.sei_traverse.specs.Bounds.{most_steps, StepsWithin, StepsAfter};
 ghost use Rattle.sei_traverse.specs.Errand.{Errand, IsErrand};
 ghost use Rattle.sei_traverse.specs.Facts.{Facts, LendsWanted, Isolates};
 ghost use Rattle.sei_traverse.specs.OnWay.{lent_words, Lends, TellsAs, OnWay, StaysOnWay, IsUnfit};
 ghost use Rattle.sei_traverse.specs.Noting.{NotesTime};
 ghost use Rattle.sei_traverse.specs.Phases.{reply_of};
-ghost use Rattle.sei_traverse.specs.Service.{service_of, given_of, has_sealed_call};
-ghost use Rattle.sei_traverse.specs.State.{IsTraversal, begun, one_more, goes_on, noted_time};
+ghost use Rattle.sei_traverse.specs.Service.{service_of, given_of};
+ghost use Rattle.sei_traverse.specs.State.{IsTraversal, begun_traversal, one_more, is_running, noted_time};
 ghost use Rattle.sei_traverse.specs.Step.{turn, turn_tree, TimedTwice};
 ghost use Rattle.sei_traverse.specs.Trusted.{IsTrusted};
-ghost use Rattle.sei_traverse.specs.Walks.{log_room, IsWalk, Stays};
+ghost use Rattle.sei_traverse.specs.Walks.{log_room};
 
 use crate::turned::{State, Turned, Want};
-use crate::walk::Walk;
+use crate::walk::{NO_NOTES, Walk};
 use mc_model::Geometry;
 use sei_code::{Buffer, Coded, Memory, Mode};
 use sei_fault::{Core, Phase, Place};
@@ -33,12 +33,6 @@ use sei_stmt::Handler;
 use sei_words::{NoBucket, Words};
 use std::alloc::Global;
 use std::marker::Model;
-
-/// The notes of a traversal that has asked for nothing yet.
-const NO_NOTES: Notes = Notes {
-    now: None,
-    slot: None,
-};
 
 /// The way of one call through all phases: two passes with their logs and outputs, what the first
 /// one noted, the number of closed phases, and the copy for the wire.
@@ -60,51 +54,26 @@ impl Model for Traversal {
     ghost invariant = { λ t. IsTraversal (record { walk = t.walk; geometry = t.geometry; steps = t.steps; running = t.running }) };
 }
 
-/// How many changes a pass may log.
-fn log_room(g: &Geometry) -> usize
+/// How many steps a traversal makes at most, with one strike at most.
+pub fn most_steps(g: &Geometry) -> u64
     requires { IsValid g.now }
-    ensures { result ≡ log_room g.now }
+    ensures { result ≡ most_steps g.now }
 {
-    (48 + g.slots + g.value_words) as usize
-}
-
-/// How many bytes the copy for the wire may have.
-fn wire_room(g: &Geometry) -> usize
-    requires { IsValid g.now }
-    ensures { result ≡ bytes_room g.now }
-{
-    (8 * g.value_words + 320) as usize
+    let statements = 2000 + 400 * g.slots + 100 * g.value_words;
+    let changes = 48 + g.slots + g.value_words;
+    2 * statements + 6 * changes + 26
 }
 
 impl Traversal {
-    /// A traversal that has not begun, with the room that each call of this geometry needs. Nothing
+    /// A traversal that has not begun_traversal, with the room that each call of this geometry needs. Nothing
     /// is allocated afterwards.
     pub fn new(alloc: Global, g: &Geometry) -> Result<Traversal, Memory>
         requires { IsValid g.now }
-        ensures { IfOk result (λ t. t.geometry ≡ g.now) }
+        ensures geometry { IfOk result (λ t. t.geometry ≡ g.now) }
+        ensures running { IfOk result (λ t. t.running ≡ false) }
     {
         Ok(Traversal {
-            walk: Walk {
-                sealed: Sealed {
-                    number: 0,
-                    nth: Coded::seal(0),
-                    code: 0,
-                    answer: 0,
-                },
-                place: Place {
-                    phase: Phase::Guard,
-                    index: 0,
-                },
-                gate: Gate::new(),
-                wanted: 0,
-                want: Want::Nothing,
-                first: Pass::new(alloc, g)?,
-                second: Pass::new(alloc, g)?,
-                first_log: WriteLog::new(alloc, log_room(g))?,
-                second_log: WriteLog::new(alloc, log_room(g))?,
-                notes: NO_NOTES,
-                wire: Buffer::new(alloc, wire_room(g))?,
-            },
+            walk: Walk::new(alloc, g)?,
             geometry: *g,
             steps: 0,
             running: false,
@@ -114,7 +83,7 @@ impl Traversal {
     /// Begins, for the call that is sealed. Replies are sent as their bytes alone.
     pub fn begin(&mut self, sealed: Sealed, mode: Mode)
         requires plain { mode ≡ Mode.Plain }
-        ensures { self.new ≡ begun self.old.geometry sealed }
+        ensures { self.new ≡ begun_traversal self.old.geometry sealed }
     {
         match mode {
             Mode::Plain => self.begin_plain(sealed),
@@ -123,7 +92,7 @@ impl Traversal {
     }
 
     fn begin_plain(&mut self, sealed: Sealed)
-        ensures { self.new ≡ begun self.old.geometry sealed }
+        ensures { self.new ≡ begun_traversal self.old.geometry sealed }
     {
         self.walk.sealed = sealed;
         self.walk.place = Place {
@@ -198,6 +167,7 @@ impl Traversal {
 
     /// Makes one step, with each of its effects asked of `core`. `lent` are the words of the bucket
     /// that is lent, where one is.
+    #[inline(always)]
     pub fn step<H: Handler, K: Core, C: Clock>(
         &mut self,
         hands: &H,
@@ -221,7 +191,7 @@ impl Traversal {
         ensures sealed { self.new.walk.sealed ≡ self.old.walk.sealed }
         ensures geometry { self.new.geometry ≡ self.old.geometry }
         ensures steps { self.new.steps ≡ one_more self.old.steps }
-        ensures running { self.new.running ≡ goes_on result.state }
+        ensures running { self.new.running ≡ is_running result.state }
         // Logs, outputs and copies keep their rooms.
         ensures rooms { IsTraversal self.new }
         // Each step but a struck one comes further, so with one strike at most the number of steps is bounded.
@@ -259,6 +229,7 @@ impl Traversal {
     }
 
     /// The same step, on what is lent.
+    #[inline(always)]
     fn step_on<H: Handler, L: Slots, K: Core, C: Clock>(
         &mut self,
         hands: &H,
@@ -278,7 +249,7 @@ impl Traversal {
         ensures sealed { self.new.walk.sealed ≡ self.old.walk.sealed }
         ensures geometry { self.new.geometry ≡ self.old.geometry }
         ensures steps { self.new.steps ≡ one_more self.old.steps }
-        ensures running { self.new.running ≡ goes_on result.state }
+        ensures running { self.new.running ≡ is_running result.state }
         ensures rooms { IsTraversal self.new }
         ensures within { (begin : Counts) → StepsWithin self.old begin (K.counts core.old) → StepsAfter self.new begin (K.counts core.new) result.state }
         ensures noted { NotesTime (C.told clock.now) self.old.walk.notes.now self.new.walk.notes.now }

@@ -3,7 +3,7 @@ ghost use Rattle.std.specs.Prelude.{◌≡◌, ℕ, ◌+◌, ◌^◌, ◌<◌, �
 ghost use Rattle.sei_code.specs.declared.modes.Mode.{Mode};
 ghost use Rattle.sei_compare.specs.Comparing.{word_at, wire_tree};
 ghost use Rattle.sei_fault.specs.Tree.{Runs, bound};
-ghost use Rattle.sei_words.specs.Loan.{words_of, place_of};
+ghost use Rattle.sei_words.specs.Loan.{words_of};
 ghost use Rattle.sei_traverse.specs.Walks.{Stays};
 ghost use Rattle.sei_traverse.specs.Acts.{acted};
 ghost use Rattle.sei_traverse.specs.Phases.{verify_tree, verify_copy, word_to, copy_bytes, wire_to};

@@ -1,4 +1,4 @@
-ghost use Rattle.std.specs.Prelude.{◌≡◌, ◌+◌, ◌<◌, ◌≤◌, ◌++◌, ◌^◌, List, length, drop, false, OnOk, OnErr};
+ghost use Rattle.std.specs.Prelude.{◌≡◌, ◌+◌, ◌<◌, ◌≤◌, ◌^◌, length, false, OnOk, OnErr};
 ghost use Rattle.sei_main.specs.Seats.{Seat, empty_seat, waiting, fed_more, taken_more, stopped};
 
 use sei_code::Memory;

@@ -1,4 +1,4 @@
-ghost use Rattle.std.specs.Prelude.{◌≡◌, ℕ, List, OnOk, IfOk, length};
+ghost use Rattle.std.specs.Prelude.{◌≡◌, OnOk, IfOk, length};
 ghost use Rattle.mc_model.specs.Views.{placed_of, IsSpanOf};
 ghost use Rattle.mc_text.specs.declared.limits.Limits.{Limits};
 ghost use Rattle.mc_text.specs.Fits.{HasOwnHash};

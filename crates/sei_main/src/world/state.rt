@@ -6,12 +6,12 @@ ghost use Rattle.mc_model.specs.Server.{IsValid};
 ghost use Rattle.mc_model.specs.Views.{placed_of, IsSpanOf};
 ghost use Rattle.mc_text.specs.Fits.{HasOwnHash};
 ghost use Rattle.mc_text.specs.Reading.{IsReading, calls_at};
-ghost use Rattle.sei_script.specs.ReportLines.{is_message};
+ghost use Rattle.sei_script.specs.ReportLines.{has_message};
 ghost use Rattle.sei_main.specs.Seats.{empty_seat, fed_more};
 ghost use Rattle.sei_main.specs.State.{limits_of, round_by, led_by};
 ghost use Rattle.sei_main.specs.Serving.{answer_in, answers_by, is_abort, is_stopped, step_by};
 ghost use Rattle.sei_main.specs.Asked.{IsCallAt};
-ghost use Rattle.sei_main.specs.Becomes.{Becomes, IsNext, IsNextOf, IsKnown, IsAnswered, asking_of, answers_to, events_to, seat_behind};
+ghost use Rattle.sei_main.specs.Becomes.{Becomes, IsNext, IsNextOf, IsKnown, IsResultOf, asking_of, answers_to, events_to, seat_behind};
 ghost use Rattle.sei_main.specs.Report.{entered_text, ended_text, served_text, events_text, line_text_by};
 
 use super::connection::Connection;
@@ -123,7 +123,7 @@ fn write_served<K: Sink>(
     bucket: u64,
     served: &Served,
 ) -> Result<bool, Stop>
-    ensures sent { IfOk result (λ sent. sent ≡ is_message served.now.message) }
+    ensures sent { IfOk result (λ sent. sent ≡ has_message served.now.message) }
     ensures all { OnOk result (K.written sink.new ≡ append_known (K.written sink.old) (served_text reporter.history c number bucket served.now)) }
     ensures part { WrotePart (K.written sink.old) (K.written sink.new) (served_text reporter.history c number bucket served.now) }
     ensures fault { result ≡ Err Stop.WriteFault → Rose (K.faults sink.old) (K.faults sink.new) }
@@ -153,7 +153,7 @@ fn answer_call<S: Service, K: Sink>(
     requires few { asking.first + nth + 1 < 2 ^ 64 }
     requires messages { messages ≤ nth }
     ensures server { OnOk result (server.new ≡ (answer_in S.answering (asking_of asking text.now plans.now) nth messages server.old (placed_of text.now call.now)).server) }
-    ensures answered { IfOk result (λ answered. IsAnswered answered (answer_in S.answering (asking_of asking text.now plans.now) nth messages server.old (placed_of text.now call.now))) }
+    ensures answered { IfOk result (λ answered. IsResultOf answered (answer_in S.answering (asking_of asking text.now plans.now) nth messages server.old (placed_of text.now call.now))) }
     ensures few { IfOk result (λ answered. answered.messages ≤ nth + 1) }
     ensures limits { S.limits server.new ≡ S.limits server.old }
     ensures all { OnOk result (K.written sink.new ≡ append_known (K.written sink.old) (events_text reporter.history (answer_in S.answering (asking_of asking text.now plans.now) nth messages server.old (placed_of text.now call.now)).events)) }
@@ -211,7 +211,7 @@ fn answer_calls<S: Service, K: Sink>(
     requires some { 0 < length text.now }
     requires few { asking.first + length text.now < 2 ^ 64 }
     ensures server { OnOk result (server.new ≡ (answers_by S.answering (asking_of asking text.now plans.now) 0 0 server.old (calls_at text.now request.now)).server) }
-    ensures answered { IfOk result (λ answered. IsAnswered answered (answers_by S.answering (asking_of asking text.now plans.now) 0 0 server.old (calls_at text.now request.now))) }
+    ensures answered { IfOk result (λ answered. IsResultOf answered (answers_by S.answering (asking_of asking text.now plans.now) 0 0 server.old (calls_at text.now request.now))) }
     ensures few { IfOk result (λ answered. answered.messages ≤ length (calls_at text.now request.now)) }
     ensures limits { S.limits server.new ≡ S.limits server.old }
     ensures all { OnOk result (K.written sink.new ≡ append_known (K.written sink.old) (events_text reporter.history (answers_by S.answering (asking_of asking text.now plans.now) 0 0 server.old (calls_at text.now request.now)).events)) }

@@ -1,6 +1,6 @@
 use Rattle.sei_main.specs.Headline.{WhenQuiet, IsPlain, PlansFault, IsLegalRun, IsNumberedRun, SendsRepliesRun, NothingAfterAbortRun, OnlyStruckAbortsRun, AnswersAllRun}
 use Rattle.sei_main.proofs.Laws.{legal, numbered, sent, nothing_after_abort, only_struck, all_answered}
-use Rattle.sei_main.proofs.Headline.{law_of, law_of_aborted, complete}
+use Rattle.sei_main.proofs.Headline.{law_of, law_of_aborted, quiet_part, complete}
 use Rattle.sei_main.proofs.TableRuns.{plain_run, plans_fault}
 use Rattle.sei_main.proofs.replay.replay.Goals as goal
 
@@ -32,3 +32,6 @@ returns-clause-quiet g c =
 
 pub returns-clause-planned : goal.returns-clause-planned
 returns-clause-planned g c = law_of_aborted PlansFault (λ script r aborted. plans_fault script r.valid r.says aborted) _ _ _ _ _ c.replay_all.ensures.answer
+
+pub returns-clause-quiet_part : goal.returns-clause-quiet_part
+returns-clause-quiet_part g c = quiet_part _ _ _ _ _ c.replay_all.ensures.answer
