@@ -43,3 +43,4 @@ pub mod TrustLaws
 pub mod StepsBound
 pub mod NotingLaws
 pub mod CountLaws
+pub mod WantingLaws

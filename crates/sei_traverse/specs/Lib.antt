@@ -16,3 +16,4 @@ pub mod Trusted
 pub mod Struck
 pub mod Facts
 pub mod Bounds
+pub mod Wanting

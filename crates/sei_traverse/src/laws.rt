@@ -1,5 +1,5 @@
 //! Laws of the definitions, each the clause of a function that does nothing.
-ghost use Rattle.std.specs.Prelude.{◌≡◌, ℕ, ◌+◌, ◌*◌, ◌^◌, ◌<◌, ◌≤◌, List, Option, Some, None};
+ghost use Rattle.std.specs.Prelude.{◌≡◌, ℕ, ◌+◌, ◌*◌, ◌^◌, ◌<◌, ◌≤◌, List, [], Option, Some, None};
 ghost use Rattle.sei_fault.specs.Counts.{Counts};
 ghost use Rattle.sei_fault.specs.declared.place.Phase.{Phase};
 ghost use Rattle.mc_model.specs.declared.geometry.Geometry.{Geometry};
@@ -9,12 +9,16 @@ ghost use Rattle.sei_traverse.specs.Bounds.{most_steps, StepsWithin};
 ghost use Rattle.sei_traverse.specs.Errand.{Errand, IsErrand};
 ghost use Rattle.sei_traverse.specs.Facts.{Facts};
 ghost use Rattle.sei_traverse.specs.OnWay.{OnWay, AtEnd};
+ghost use Rattle.sei_traverse.specs.Phases.{reply_of};
 ghost use Rattle.sei_traverse.specs.Served.{IsServed, HasReply};
 ghost use Rattle.sei_traverse.specs.Sound.{IsServedBy, IsModelAnswer};
 ghost use Rattle.sei_traverse.specs.State.{TraversalState, IsTraversal, begun_traversal};
 ghost use Rattle.sei_traverse.specs.Struck.{IsHonestResult};
 ghost use Rattle.sei_traverse.specs.Trusted.{IsTrusted, PassesGuard};
 ghost use Rattle.sei_traverse.specs.Walks.{log_room};
+ghost use Rattle.sei_traverse.specs.Wanting.{Steps, WantsOnce, wanted_in, all_wants};
+ghost use Rattle.sei_traverse.specs.declared.turned.State.{State};
+ghost use Rattle.sei_traverse.specs.declared.turned.Want.{Want};
 ghost use Rattle.sei_traverse.specs.declared.walk.Walk.{Walk};
 
 use sei_stmt::Modeled;
@@ -49,6 +53,16 @@ pub fn faults_are_isolated()
     ensures gives { (e : Errand) (t : TraversalState) (words : List ℕ) (begin now : Counts) → t.walk.gate.done ≡ 9 →
         Facts e t (Some words) begin now → Facts e t None begin now }
     ensures on_way { (e : Errand) (t : TraversalState) (lent : Option (List ℕ)) (begin now : Counts) → Facts e t lent begin now → OnWay e t lent begin now }
+{}
+
+/// Over all steps of a traversal that are isolated, `Take`, `Enter`, `Give` and `Send` are wanted in this
+/// order, each once at most. Where it is finished, all of them were wanted, but for `Send` where its reply
+/// is empty; and where it is refused, none was.
+pub fn wants_come_once()
+    ensures once { (e : Errand) (begin : Counts) (wants : List Want) (t : TraversalState) (state : State) → Steps e begin wants t state → WantsOnce wants }
+    ensures finished { (e : Errand) (begin : Counts) (wants : List Want) (t : TraversalState) → Steps e begin wants t State.Finished →
+        (bucket : ℕ) × (wanted_in wants ≡ all_wants bucket (reply_of t.walk)) }
+    ensures refused { (e : Errand) (begin : Counts) (wants : List Want) (t : TraversalState) → Steps e begin wants t State.Refused → wanted_in wants ≡ [] }
 {}
 
 /// With one strike at most since it began, a traversal makes no more steps than its bound, whatever

@@ -18,7 +18,7 @@ mod walk;
 
 pub use laws::{
     both_passes_are_made, faults_are_isolated, sound_handlers_are_trusted, steps_are_bounded,
-    traversals_are_on_their_way, traversals_end,
+    traversals_are_on_their_way, traversals_end, wants_come_once,
 };
 pub use traversal::{Traversal, most_steps};
 pub use turned::{Abort, State, Turned, Want};
