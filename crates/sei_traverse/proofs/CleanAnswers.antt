@@ -28,6 +28,7 @@ use Rattle.sei_traverse.specs.Struck.{IsAimed, IsHonestResult}
 use Rattle.sei_traverse.specs.Trusted.{IsTrusted, second_setting}
 use Rattle.sei_traverse.specs.Unstruck.{first_questions, InBoth}
 use Rattle.sei_traverse.proofs.NoteLaws.{repeats, now_first}
+use Rattle.sei_traverse.proofs.SmallNotes.{small_whole, small_sealed}
 use Rattle.sei_traverse.proofs.TimeLaws.{after_again}
 
 -- A first pass asks as much whatever is noted, and whatever the time is.
@@ -176,6 +177,7 @@ module _ (e : Errand) (time made : ℕ) (end : Machine) (whole : Whole e time ma
         end = renoted (notes_of read.time read.slot) end;
         made = made;
         noted = ap (λ (n : Notes). n.now) notes ∙ read.noted;
+        small = small_sealed end.notes.now read.time read.noted (small_whole e time made end end.notes whole refl);
         run = read.run;
         words_are = are;
         reply = reply;

@@ -20,8 +20,9 @@ use Rattle.sei_traverse.specs.Comes.{renoted}
 use Rattle.sei_traverse.specs.Errand.{Errand, given_in, first_start}
 use Rattle.sei_traverse.specs.PassActs.{second_machine}
 use Rattle.sei_traverse.specs.Service.{call_of}
-use Rattle.sei_traverse.specs.Struck.{IsHonestResult, ComesOn, setting_on, start_on}
+use Rattle.sei_traverse.specs.Struck.{NotesSmall, IsHonestResult, ComesOn, setting_on, start_on}
 use Rattle.sei_traverse.specs.Trusted.{PassesGuard, IsTrusted, second_setting}
+use Rattle.sei_traverse.proofs.SmallNotes.{small_sealed}
 
 -- A table that parses first.
 
@@ -95,9 +96,9 @@ module _ (e : Errand) (trusted : IsTrusted e) (w : Walk) (passed : Passed (setti
       eqb-true w.wanted e.call.bucket lent
 
 -- the words and the output that it leaves are those of an honest run
-pub good_answers : (e : Errand) → IsTrusted e → (w : Walk) (words : List ℕ) (asked n : ℕ) → ComesOn e w e.taken words Halted n →
+pub good_answers : (e : Errand) → IsTrusted e → (w : Walk) (words : List ℕ) (asked n : ℕ) → NotesSmall w.notes.now → ComesOn e w e.taken words Halted n →
     first_asked (setting_on e w.wanted) (start_on e e.taken w.notes) n + 1 ≤ asked → IsHonestResult e w words asked
-good_answers e trusted w words asked n comes asks =
+good_answers e trusted w words asked n small comes asks =
     let passed = halted_passed (setting_on e w.wanted) (start_on e e.taken w.notes) (second_machine w words) n trusted.parses (record { halts = comes }) in
     let fit : PassesGuard e = good_fit e trusted w passed in
     let wanted : w.wanted ≡ e.call.bucket = good_wanted e trusted w passed in
@@ -113,6 +114,7 @@ good_answers e trusted w words asked n comes asks =
       end = renoted (notes_of read.time read.slot) (second_machine w words);
       made = n;
       noted = read.noted;
+      small = small_sealed w.notes.now read.time read.noted small;
       run = read.run;
       words_are = refl;
       reply = refl;

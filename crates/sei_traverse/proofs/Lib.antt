@@ -44,3 +44,4 @@ pub mod StepsBound
 pub mod NotingLaws
 pub mod CountLaws
 pub mod WantingLaws
+pub mod SmallNotes

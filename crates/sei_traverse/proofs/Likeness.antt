@@ -37,6 +37,7 @@ module _ (e : Errand) (w v : Walk) (l : IsLike w v) where
     end = a.end;
     made = a.made;
     noted = ap (λ (n : Notes). n.now) l.notes ∙ a.noted;
+    small = a.small;
     run = a.run;
     words_are = a.words_are;
     reply = ap (λ (p : PassState). p.bytes.items) l.second ∙ a.reply;
@@ -101,7 +102,7 @@ module _ (e : Errand) (w : Walk) (n : Want) (asked : ℕ) where
   }
 
   first_struck : (words : List ℕ) → FirstStruck e w words asked → FirstStruck e (wanting w n) words asked
-  first_struck words (Restorable u) = Restorable u
+  first_struck words (Restorable small u) = Restorable small u
   first_struck words (Misread x) = Misread (record {
     aimed = aims x.aimed;
     log = x.log;
@@ -121,12 +122,12 @@ module _ (e : Errand) (w : Walk) (n : Want) (asked : ℕ) where
   first_stands (Some words) h = first_struck words h
 
   restore_struck : (words : List ℕ) → RestoreStruck e w words asked → RestoreStruck e (wanting w n) words asked
-  restore_struck words (RestorableR u) = RestorableR u
+  restore_struck words (RestorableR small u) = RestorableR small u
   restore_struck words (MisreadR end x off) = MisreadR end (was_misread end x) off
   restore_struck words (DamagedR end x place c stands behind other) = DamagedR end (was_honest end x) place c stands behind other
 
   second_struck : (words : List ℕ) (o : Outcome) → SecondStruck e w words o asked → SecondStruck e (wanting w n) words o asked
-  second_struck words o (Good k comes questions) = Good k comes questions
+  second_struck words o (Good small k comes questions) = Good small k comes questions
   second_struck words o (MisreadS end x found off k comes) = MisreadS end (was_misread end x) found off k comes
   second_struck words o (DamagedS end x place c stands found other k comes) = DamagedS end (was_honest end x) place c stands found other k comes
   second_struck words o (StruckS end x off) = StruckS end (was_honest end x) off

@@ -177,7 +177,7 @@ module _ (told : Option ℕ) where
   notes_counted g i m s true answer = notes g i (record m { made = m.made + 1 }) s answer
   notes_counted g i m s false answer = Same refl
 
-  notes_found : (g : Setting) (i : ℕ) (m : Machine) (o : Option Stmt) → IsAnswer told g.now → Always (λ (x : After). NotesTime told m.notes.now x.machine.notes.now) (found_tree g i m o)
+  pub notes_found : (g : Setting) (i : ℕ) (m : Machine) (o : Option Stmt) → IsAnswer told g.now → Always (λ (x : After). NotesTime told m.notes.now x.machine.notes.now) (found_tree g i m o)
   notes_found g i m None answer = Same refl
   notes_found g i m (Some s) answer = notes_counted g i m s (nat_lt m.made g.budget) answer
 

@@ -49,6 +49,7 @@ answers_like e w v words asked more like second le a = record {
   end = a.end;
   made = a.made;
   noted = ap (λ (n : Notes). n.now) like.notes ∙ a.noted;
+  small = a.small;
   run = a.run;
   words_are = a.words_are;
   reply = ap (λ (p : PassState). p.bytes.items) second ∙ a.reply;
@@ -64,7 +65,7 @@ outputs_both e w lent time made end asked b =
 -- what is so of the second pass behind the place of the walk
 second_at : (e : Errand) (w : Walk) (to : Place) (words : List ℕ) (o : Outcome) (asked more : ℕ) → asked ≤ more → SecondStruck e w words o asked →
     SecondStruck e (record w { place = to }) words o more
-second_at e w to words o asked more le (Good n comes asks) = Good n comes (omega (arith, le, asks))
+second_at e w to words o asked more le (Good small n comes asks) = Good small n comes (omega (arith, le, asks))
 second_at e w to words o asked more le (Misread end was found off n comes) =
     Misread end (misread_like e w (record w { place = to }) (moved_like w to) end asked more le was) found off n comes
 second_at e w to words o asked more le (Damaged end was place c s found other n comes) =
@@ -133,8 +134,8 @@ module _ (e : Errand) (trusted : IsTrusted e) (w : Walk) (words : List ℕ) (ask
       let twice = distinct.distinct place q c d s (subst (λ (l : List Change). Stands l q d) (sym logs) t) same in omega (arith, before, twice)))
 
   words_after : SecondStruck e w words Halted asked → WordsStruck e verified words more
-  words_after (Good n comes asks) =
-      FineWords (answers_like e w verified words asked more (closed_like w (at Verify 0)) refl le (good_answers e trusted w words asked n comes asks))
+  words_after (Good small n comes asks) =
+      FineWords (answers_like e w verified words asked more (closed_like w (at Verify 0)) refl le (good_answers e trusted w words asked n small comes asks))
   words_after (Misread end was found off n comes) =
       FineWords (answers_like e w verified words asked more (closed_like w (at Verify 0)) refl le (misread_answers end was found off n comes))
   words_after (Damaged end was place c s found other n comes) = absurd (damaged_never end was place c s found other n comes)

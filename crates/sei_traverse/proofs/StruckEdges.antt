@@ -45,6 +45,7 @@ answers_at e w v words asked more wanted notes second le a = record {
   end = a.end;
   made = a.made;
   noted = ap (λ (n : Notes). n.now) notes ∙ a.noted;
+  small = a.small;
   run = a.run;
   words_are = a.words_are;
   reply = ap (λ (p : PassState). p.bytes.items) second ∙ a.reply;

@@ -40,7 +40,7 @@ use Rattle.sei_traverse.proofs.ClosesNext.ClosesNext.{Stays, Closes}
 use Rattle.sei_traverse.specs.PassActs.{asked_behind, pass_of, first_machine, with_first, first_from, first_to}
 use Rattle.sei_traverse.specs.Service.{given_of, setting_in}
 use Rattle.sei_traverse.specs.Step.{act_in}
-use Rattle.sei_traverse.specs.Struck.{relogged, IsAimed, IsMisread, FirstStruck, StruckInFirst, WasMisread, RestoreStruck}
+use Rattle.sei_traverse.specs.Struck.{NotesSmall, relogged, IsAimed, IsMisread, FirstStruck, StruckInFirst, WasMisread, RestoreStruck}
 use Rattle.sei_traverse.specs.Struck.FirstStruck.{Restorable as Undoes, Misread as Misreads}
 use Rattle.sei_traverse.specs.Struck.RestoreStruck.{Restorable as StillUndoes, Misread as HasMisread}
 use Rattle.sei_traverse.specs.Trusted.{IsTrusted}
@@ -48,6 +48,7 @@ use Rattle.sei_traverse.specs.Unstruck.{SecondIsNew, InFirst, FirstRuns}
 use Rattle.sei_traverse.proofs.Closes.{closed, closes_in_turn, first_behind}
 use Rattle.sei_traverse.proofs.PhaseLaws.{given_for, EndsRight, ActsWell, PhaseLaws}
 use Rattle.sei_traverse.proofs.PhaseLaws.LeadsWell.{Onward}
+use Rattle.sei_traverse.proofs.SmallNotes.{small_agrees, small_honest, small_struck}
 use Rattle.sei_traverse.proofs.TimeLaws.{within_clock, agrees_on, comes_on, goes_on, Stands, ends_so}
 
 -- What an effect keeps.
@@ -187,21 +188,21 @@ module _ (e : Errand) (w : Walk) (nothing : w.want ≡ Nothing) (gate : w.gate.d
   ends_so_by (Bad cause) next halts = wants_nothing e asked (acted (with_first w m) m.words (Aborts cause)) nothing (Stays gate nothing) tt
 
   -- where the log undoes what was changed, it may go on anywhere
-  undoes_on : (o : Outcome) → undone m.log.items m.words ≡ e.taken → ActsWell e First asked (honest (first_from (with_first w m) m.words o))
-  undoes_on o u = ends_so_by o (λ index is. Undoes u) (λ is. StillUndoes (all_pending m.log.items m.words e.taken u))
+  undoes_on : (o : Outcome) → NotesSmall m.notes.now → undone m.log.items m.words ≡ e.taken → ActsWell e First asked (honest (first_from (with_first w m) m.words o))
+  undoes_on o small u = ends_so_by o (λ index is. Undoes small u) (λ is. StillUndoes small (all_pending m.log.items m.words e.taken u))
 
 -- behind the closing test nothing is asked
 closed_asks_no_more : (w : Walk) (words : List ℕ) (b : Bool) (done : ℕ) (y : Acted) (n : ℕ) → StruckRun (closed_to w words (λ v. ends (record v { want = Nothing }) words (Leads (at Restore 0))) (b, done)) y n → ⊥
 closed_asks_no_more w words true done y n s = s
 closed_asks_no_more w words false done y n s = s
 
-module _ (e : Errand) (w : Walk) (nothing : w.want ≡ Nothing) (gate : w.gate.done ≡ phase_number First) (geometry : w.first.geometry ≡ e.geometry) (second : SecondIsNew e w) (m : Machine) (asked : ℕ) (u : undone m.log.items m.words ≡ e.taken) where
+module _ (e : Errand) (w : Walk) (nothing : w.want ≡ Nothing) (gate : w.gate.done ≡ phase_number First) (geometry : w.first.geometry ≡ e.geometry) (second : SecondIsNew e w) (m : Machine) (asked : ℕ) (small : NotesSmall m.notes.now) (u : undone m.log.items m.words ≡ e.taken) where
   -- a strike behind the statement falls on the closing test
   struck_behind : (o : Outcome) (y : Acted) (n : ℕ) → StruckRun (first_from (with_first w m) m.words o) y n → ActsWell e First asked y
   struck_behind (Next index) y n s = absurd s
   struck_behind Halted y n (inl h) =
       subst (λ (x : Acted). ActsWell e First asked x) (sym h.end)
-      (closed_so e w nothing gate geometry second m asked h.answer (StillUndoes (all_pending m.log.items m.words e.taken u)))
+      (closed_so e w nothing gate geometry second m asked h.answer (StillUndoes small (all_pending m.log.items m.words e.taken u)))
   struck_behind Halted y n (inr (k, is, s)) = absurd (closed_asks_no_more (with_first w m) m.words (w.gate.done == 2) (if w.gate.done == 2 then risen w.gate.done else w.gate.done) y k s)
   struck_behind (Bad cause) y n s = absurd s
 
@@ -215,6 +216,9 @@ clean_keeps : (e : Errand) (w : Walk) (words : List ℕ) (steps asked : ℕ) →
 clean_keeps e w words steps asked r =
     comes_keeps (first_setting e) (first_start e) r.made asked (at_outcome (first_machine w words) (Next w.place.index)) refl r.comes
 
+clean_small : (e : Errand) (w : Walk) (words : List ℕ) (steps asked : ℕ) → FirstRuns e w words steps asked → NotesSmall w.notes.now
+clean_small e w words steps asked r = small_agrees w.notes.now r.comes.time r.comes.agrees
+
 pub first_moved : (e : Errand) (w : Walk) (lent : Option (List ℕ)) (steps asked index : ℕ) → InFirst e w lent steps asked → StruckInFirst e (record w { place = at First index }) lent asked
 first_moved e w None steps asked index h = record {
   geometry = ap (λ (p : PassState). p.geometry) h.at.first.first;
@@ -224,7 +228,7 @@ first_moved e w None steps asked index h = record {
 first_moved e w (Some words) steps asked index h = record {
   geometry = h.at.geometry;
   second = record { second = h.second.second; second_log = h.second.second_log };
-  stands = Undoes (clean_keeps e w words steps asked h.at).undo;
+  stands = Undoes (clean_small e w words steps asked h.at) (clean_keeps e w words steps asked h.at).undo;
 }
 
 -- the given parts of a step are the errand's, where the wanted bucket is the call's
@@ -274,12 +278,12 @@ module _ (e : Errand) (always : EndsAlways (first_setting e) (first_start e)) (n
   clean_step = first_step e now w.place.index (first_machine w words)
 
   -- a strike in the statement
-  struck_before : (n : ℕ) (x : After) (k : ℕ) → k ≤ n → StruckEffect (at_time (first_setting e) now) w.place.index (first_machine w words) x k →
+  struck_before : (n : ℕ) (x : After) (k : ℕ) → k ≤ n → NotesSmall x.machine.notes.now → StruckEffect (at_time (first_setting e) now) w.place.index (first_machine w words) x k →
       ActsWell e First (asked + n) (honest (first_to w x))
-  struck_before n x k le (Plain effect) =
-      undoes_on e w nothing h.is.gate h.at.geometry h.second x.machine (asked + n) x.outcome
+  struck_before n x k le noted (Plain effect) =
+      undoes_on e w nothing h.is.gate h.at.geometry h.second x.machine (asked + n) x.outcome noted
       (effect_undone e.taken (first_machine w words) x.machine effect (clean_keeps e w words steps asked h.at).undo)
-  struck_before n x k le (Wrong a word was v stood room is so many) =
+  struck_before n x k le noted (Wrong a word was v stood room is so many) =
       subst (λ (z : After). ActsWell e First (asked + n) (honest (first_to w z))) (sym is)
       (leads_on e w nothing h.is.gate h.at.geometry h.second (stored (one_made (first_machine w words)) a was v v) (asked + n) (w.place.index + 1)
       (Misreads (misread_so e w words aimed (clean_keeps e w words steps asked h.at) a was v (w.place.index + 1) (suc h.at.made) (asked + questions clean_step) (asked + n)
@@ -289,9 +293,10 @@ module _ (e : Errand) (always : EndsAlways (first_setting e) (first_start e)) (n
   struck_within : (y : Acted) (n : ℕ) → StruckBound clean_step (first_to w) y n → ActsWell e First (asked + n) y
   struck_within y n (Before x k s is many) =
       subst (λ (z : Acted). ActsWell e First (asked + n) z) (sym is)
-      (struck_before n x k (omega (arith, many)) (struck_effect (at_time (first_setting e) now) w.place.index (first_machine w words) x k s))
+      (struck_before n x k (omega (arith, many)) (small_struck (first_setting e) now small w.place.index (first_machine w words) (clean_small e w words steps asked h.at) x k s) (struck_effect (at_time (first_setting e) now) w.place.index (first_machine w words) x k s))
   struck_within y n (Behind k s many) =
       struck_behind e w nothing h.is.gate h.at.geometry h.second (honest clean_step).machine (asked + n)
+      (small_honest (first_setting e) now small w.place.index (first_machine w words) (clean_small e w words steps asked h.at))
       (effect_undone e.taken (first_machine w words) (honest clean_step).machine (honest_effect (at_time (first_setting e) now) w.place.index (first_machine w words)) (clean_keeps e w words steps asked h.at).undo)
       (honest clean_step).outcome y k s
 
@@ -387,10 +392,11 @@ module _ (e : Errand) (now : ℕ) (w : Walk) (words : List ℕ) (asked : ℕ) (n
   abbrev given_tree : Tree After
   given_tree = step_tree (setting_in (given_for e First w.wanted) Making w.sealed now) w.place.index (first_machine w words)
 
-  undoes_honest : undone w.first_log.items words ≡ e.taken → ActsWell e First (asked + questions (bound given_tree (first_to w))) (honest (bound given_tree (first_to w)))
-  undoes_honest u =
+  undoes_honest : now < 2 ^ 64 → NotesSmall w.notes.now → undone w.first_log.items words ≡ e.taken → ActsWell e First (asked + questions (bound given_tree (first_to w))) (honest (bound given_tree (first_to w)))
+  undoes_honest small noted u =
       subst (λ (y : Acted). ActsWell e First (asked + questions (bound given_tree (first_to w))) y) (sym (honest_bound given_tree (first_to w)))
       (undoes_on e w nothing gate geometry second (honest given_tree).machine (asked + questions (bound given_tree (first_to w))) (honest given_tree).outcome
+      (small_honest (setting_in (given_for e First w.wanted) Making w.sealed now) now small w.place.index (first_machine w words) noted)
       (effect_undone e.taken (first_machine w words) (honest given_tree).machine
       (honest_effect (setting_in (given_for e First w.wanted) Making w.sealed now) w.place.index (first_machine w words)) u))
 
@@ -407,7 +413,7 @@ module _ (e : Errand) (now : ℕ) (w : Walk) (words : List ℕ) (asked : ℕ) (n
 
   honest_stands : IsTrusted e → now < 2 ^ 64 → Follows e.clock now → w.sealed ≡ e.sealed → FirstStruck e w words asked →
       ActsWell e First (asked + questions (bound given_tree (first_to w))) (honest (bound given_tree (first_to w)))
-  honest_stands trusted small told sealed (Undoes u) = undoes_honest u
+  honest_stands trusted small told sealed (Undoes noted u) = undoes_honest small noted u
   honest_stands trusted small told sealed (Misreads h) = misreads_honest (trusted.ends h.aimed.fit) small told sealed h
 
 pub first_honest_on : (e : Errand) → IsTrusted e → (now : ℕ) → now < 2 ^ 64 → Follows e.clock now → (w : Walk) (words : List ℕ) (asked : ℕ) → w.want ≡ Nothing → w.gate.done ≡ phase_number First → w.sealed ≡ e.sealed →

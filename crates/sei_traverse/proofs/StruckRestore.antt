@@ -35,7 +35,7 @@ use Rattle.sei_traverse.specs.Errand.{Errand, first_setting, first_start, Whole}
 use Rattle.sei_traverse.specs.Facts.{Wanted, closing_want}
 use Rattle.sei_traverse.proofs.ClosesNext.ClosesNext.{Stays, Closes}
 use Rattle.sei_traverse.specs.Phases.{undone_to, restore_tree}
-use Rattle.sei_traverse.specs.Struck.{IsAimed, WasHonest, WasMisread, pending, On, RestoreStruck, SecondStruck, ComesOn}
+use Rattle.sei_traverse.specs.Struck.{NotesSmall, IsAimed, WasHonest, WasMisread, pending, On, RestoreStruck, SecondStruck, ComesOn}
 use Rattle.sei_traverse.specs.Struck.RestoreStruck.{Restorable, Misread, Damaged}
 use Rattle.sei_traverse.specs.Struck.SecondStruck.{Good, Misread as MisreadOn, Damaged as DamagedOn}
 use Rattle.sei_traverse.specs.Trusted.{IsTrusted}
@@ -43,6 +43,7 @@ use Rattle.sei_traverse.specs.Unstruck.{SecondIsNew, InRestore}
 use Rattle.sei_traverse.proofs.Closes.{closed, closes_in_turn}
 use Rattle.sei_traverse.proofs.PhaseLaws.{lent_in, LeadsWell, EndsRight, ActsWell, PhaseLaws}
 use Rattle.sei_traverse.proofs.PhaseLaws.LeadsWell.{Onward}
+use Rattle.sei_traverse.proofs.SmallNotes.{small_whole}
 
 -- An act by its end.
 
@@ -258,6 +259,10 @@ restore_facts e w words steps asked aimed i =
 not_back : (word : Option ℕ) (c : Change) → c.was ≢ c.becomes → word ≡ Some c.becomes → word ≢ Some c.was
 not_back word c real is back = real (same_Some c.was c.becomes (sym back ∙ is))
 
+-- what an honest first pass noted is small
+small_was : (e : Errand) (w : Walk) (end : Machine) (asked : ℕ) → WasHonest e w end asked → NotesSmall w.notes.now
+small_was e w end asked was = small_whole e was.time was.made end w.notes was.whole was.first.notes
+
 -- A move to another place of the restoration.
 
 module _ (e : Errand) (w : Walk) (words : List ℕ) (asked : ℕ) (f : RestoreFacts e w words asked) (index : ℕ) where
@@ -266,7 +271,7 @@ module _ (e : Errand) (w : Walk) (words : List ℕ) (asked : ℕ) (f : RestoreFa
       let left = length w.first_log.items - w.place.index in
       let more = length w.first_log.items - index - left in
       let all : length w.first_log.items - index ≡ more + left = omega (arith, h) in
-      Restorable (ap (λ (n : ℕ). undone (take n w.first_log.items) words) all
+      Restorable (small_was e w f.end asked f.was) (ap (λ (n : ℕ). undone (take n w.first_log.items) words) all
       ∙ undo_more w.first_log.items words left more (omega (arith, h)) f.undoing.passed
       ∙ f.undoing.undo)
 
@@ -328,7 +333,7 @@ module _ (e : Errand) (w : Walk) (words : List ℕ) (asked more : ℕ) (le : ask
       ∙ undone_one w.first_log.items e.taken words k c here (ap (λ (n : ℕ). undone (take n w.first_log.items) words) (sym last) ∙ u)
 
   honest_next : RestoreStruck e w words asked → RestoreStruck e next (slice_set words c.address c.was) more
-  honest_next (Restorable u) = Restorable (undo_next u)
+  honest_next (Restorable small u) = Restorable small (undo_next u)
   honest_next (Misread end was off) =
       Misread end (misread_like e w next (moved_like w (at Restore (w.place.index + 1))) end asked more le was) (same_within w.first_log.items k c words e.taken c.was here off)
   honest_next (Damaged end was place d s past other) =
@@ -348,7 +353,7 @@ module _ (e : Errand) (w : Walk) (words : List ℕ) (asked more : ℕ) (le : ask
     -- some word was written at some address
     wrote_some : (a v : ℕ) → (a ≡ c.address) ⊎ (a ≢ c.address) → (v ≡ c.was) ⊎ (v ≢ c.was) → RestoreStruck e next (slice_set words a v) more
     wrote_some a v (inl i) (inl j) =
-        Restorable (ap (λ (x : ℕ). undone (pending next) (slice_set words x v)) i
+        Restorable (small_was e w f.end asked f.was) (ap (λ (x : ℕ). undone (pending next) (slice_set words x v)) i
         ∙ ap (λ (x : ℕ). undone (pending next) (slice_set words c.address x)) j
         ∙ undo_next f.undoing.undo)
     wrote_some a v (inl i) (inr j) =
@@ -377,7 +382,7 @@ module _ (e : Errand) (w : Walk) (words : List ℕ) (asked more : ℕ) (le : ask
       ap (λ (n : ℕ). undone (take n w.first_log.items) words) none ∙ u
 
   into_second : RestoreStruck e w words asked → SecondStruck e begun words (Next 0) more
-  into_second (Restorable u) = Good 0 (subst (λ (found : List ℕ). ComesOn e begun found words (Next 0) 0) (none_pending u) begins_on) (omega arith)
+  into_second (Restorable small u) = Good small 0 (subst (λ (found : List ℕ). ComesOn e begun found words (Next 0) 0) (none_pending u) begins_on) (omega arith)
   into_second (Misread end was off) = MisreadOn end (misread_like e w begun (closed_like w (at Second 0)) end asked more le was) words off 0 begins_on
   into_second (Damaged end was place c s past other) =
       DamagedOn end (honest_like e w begun (closed_like w (at Second 0)) end asked more le was) place c s words other 0 begins_on
@@ -410,7 +415,7 @@ module _ (e : Errand) (w : Walk) (words : List ℕ) (asked more : ℕ) (le : ask
       aborts_well)
   struck_act f false h =
       closes_well e Restore w words more (at Second 0) refl (ap risen gate)
-      (second_well (ltb-false w.place.index (length w.first_log.items) h) (Restorable f.undoing.undo)) nothing gate
+      (second_well (ltb-false w.place.index (length w.first_log.items) h) (Restorable (small_was e w f.end asked f.was) f.undoing.undo)) nothing gate
 
   -- without one
   honest_act : RestoreStruck e w words asked → (b : Bool) → nat_lt w.place.index (length w.first_log.items) ≡ b →

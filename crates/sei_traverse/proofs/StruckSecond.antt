@@ -55,7 +55,7 @@ use Rattle.sei_traverse.specs.Facts.{Wanted}
 use Rattle.sei_traverse.proofs.ClosesNext.ClosesNext.{Stays, Closes}
 use Rattle.sei_traverse.specs.PassActs.{asked_behind, second_machine, with_second, second_from, second_to}
 use Rattle.sei_traverse.specs.Service.{setting_in}
-use Rattle.sei_traverse.specs.Struck.{IsAimed, WasHonest, WasMisread, start_on, setting_on, ComesOn, SecondStruck, CompareStruck, On}
+use Rattle.sei_traverse.specs.Struck.{NotesSmall, IsAimed, WasHonest, WasMisread, start_on, setting_on, ComesOn, SecondStruck, CompareStruck, On}
 use Rattle.sei_traverse.specs.Struck.SecondStruck.{Good, Misread, Damaged, Struck}
 use Rattle.sei_traverse.specs.Struck.CompareStruck.{Fine, Doubt}
 use Rattle.sei_traverse.specs.Trusted.{IsTrusted, second_setting}
@@ -64,6 +64,7 @@ use Rattle.sei_traverse.proofs.Closes.{closed, closes_in_turn, second_behind}
 use Rattle.sei_traverse.proofs.GoodAnswers.{good_answers}
 use Rattle.sei_traverse.proofs.PhaseLaws.{given_for, ActsWell, PhaseLaws}
 use Rattle.sei_traverse.proofs.PhaseLaws.LeadsWell.{Onward}
+use Rattle.sei_traverse.proofs.SmallNotes.{small_whole}
 use Rattle.sei_traverse.proofs.TimeLaws.{timeless_again}
 
 -- A statement of a reading pass leaves the notes, whatever is answered.
@@ -389,7 +390,7 @@ module _ (e : Errand) (w : Walk) (words : List ℕ) where
 
     -- the case stays as it is
     goes_honestly : SecondStruck e w words (Next w.place.index) asked → SecondStruck e there on_end.machine.words on_end.outcome later
-    goes_honestly (Good n c before) = Good (suc n) (comes_one e.taken n c) (asked_one n c before)
+    goes_honestly (Good small n c before) = Good (subst (λ (k : Notes). NotesSmall k.now) (sym notes_here) small) (suc n) (comes_one e.taken n c) (asked_one n c before)
     goes_honestly (Misread end was found off n c) =
         Misread end (was_misread e w on_end.machine done want to asked later least notes_here end was) found off (suc n) (comes_one found n c)
     goes_honestly (Damaged end was p c stands found not n comes) =
@@ -403,7 +404,7 @@ module _ (e : Errand) (w : Walk) (words : List ℕ) where
 module _ (e : Errand) (trusted : IsTrusted e) (v : Walk) (words : List ℕ) (asked : ℕ) where
   -- where the pass was honest on the words that were taken, all is well; else nothing was compared yet
   compare_stands : v.place.index ≡ 0 → SecondStruck e v words Halted asked → CompareStruck e v words asked
-  compare_stands zero_at (Good n comes before) = Fine (good_answers e trusted v words asked n comes before)
+  compare_stands zero_at (Good small n comes before) = Fine (good_answers e trusted v words asked n small comes before)
   compare_stands zero_at (Misread end was found off n comes) = Doubt (Misread end was found off n comes) (λ p lt. absurd (omega (arith, zero_at, lt)))
   compare_stands zero_at (Damaged end was p c stands found not n comes) = Doubt (Damaged end was p c stands found not n comes) (λ q lt. absurd (omega (arith, zero_at, lt)))
   compare_stands zero_at (Struck end was off) = Doubt (Struck end was off) (λ p lt. absurd (omega (arith, zero_at, lt)))
@@ -510,7 +511,7 @@ module _ (e : Errand) (w : Walk) (lent : Option (List ℕ)) (steps asked : ℕ) 
       subst (λ (b : ℕ). first_asked (setting_on e b) (start_on e e.taken w.notes) h.n ≤ asked) (sym aimed.wanted) noted
 
   clean_good : (words : List ℕ) → lent ≡ Some words → SecondStruck e w words (Next w.place.index) asked
-  clean_good words are = Good h.n (clean_comes words are) (omega (arith, clean_asked words are))
+  clean_good words are = Good (small_whole e h.time h.made h.end w.notes h.whole h.first.notes) h.n (clean_comes words are) (omega (arith, clean_asked words are))
 
   -- at any other statement it counts as struck in the second pass
   second_moved : (index : ℕ) → On lent (λ words. SecondStruck e (record w { place = at Second index }) words (Next index) asked)

@@ -129,8 +129,8 @@ module _ {B : Type 0} (Stands : List ℕ → B → Type 0) (answer : List ℕ �
   }
 
   -- the words that are to be entered are those of the answer
-  pub is_answered : (w : Walk) (words : List ℕ) (asked : ℕ) (a : IsHonestResult e w words asked) → a.time < 2 ^ 64 → IsModelAnswer Stands answer h.held e w words
-  is_answered w words asked a small = by_end (serves_noted a.aimed.fit a.time a.slot small)
+  pub is_answered : (w : Walk) (words : List ℕ) (asked : ℕ) (a : IsHonestResult e w words asked) → IsModelAnswer Stands answer h.held e w words
+  is_answered w words asked a = by_end (serves_noted a.aimed.fit a.time a.slot a.small)
     where
       nth : ℕ
       nth = (nth_of a.aimed.fit).0

@@ -1,6 +1,7 @@
 -- Where a traversal stands that was struck once, and whose gate closed as many phases as stand before its own.
-use Rattle.std.specs.Prelude.{◌≡◌, ◌≢◌, ℕ, ◌+◌, ◌-◌, ◌<◌, ◌≤◌, List, length, take, Option, Some, None, slice_get}
+use Rattle.std.specs.Prelude.{◌≡◌, ◌≢◌, ℕ, ◌+◌, ◌-◌, ◌^◌, ◌<◌, ◌≤◌, List, length, take, Option, Some, None, slice_get, ⊤}
 use Rattle.sei_code.specs.Coded.{sealed}
+use Rattle.sei_code.specs.declared.coded.Coded.{Coded}
 use Rattle.sei_code.specs.Kept.{Kept, empty_kept}
 use Rattle.sei_fault.specs.declared.place.Phase.{Phase}
 use Rattle.sei_fault.specs.declared.place.Phase.TheVariants.{Guard, Take, First, Restore, Second, Compare, Verify, Enter, Give, Send, Done}
@@ -29,6 +30,11 @@ use Rattle.sei_traverse.specs.Walks.{log_room}
 abbrev pub relogged : Kept Change → Machine → Machine
 relogged log m = record m { log = log }
 
+-- where a time is noted, it is a number of 64 bits
+abbrev pub NotesSmall : Option Coded → Type 0
+NotesSmall None = ⊤
+NotesSmall (Some note) = note.value < 2 ^ 64
+
 -- the input is fit, and the wanted bucket is the call's
 pub record IsAimed (e : Errand) (w : Walk) : Type 0 where
   pub fit : PassesGuard e
@@ -40,7 +46,8 @@ abbrev pub run_questions : Errand → ℕ → ℕ → ℕ → ℕ
 run_questions e time slot made = first_asked (second_setting e) (renoted (notes_of time slot) (first_start e)) made + 1
 
 -- what holds of each traversal that comes to Enter: the words and the reply are those that an honest run on the
--- words that were taken leaves, by the noted time and some slot, and at least as many questions were asked as it asks
+-- words that were taken leaves, by the noted time and some slot, and at least as many questions were asked as it asks; the
+-- time is a number of 64 bits
 pub record IsHonestResult (e : Errand) (w : Walk) (words : List ℕ) (asked : ℕ) : Type 0 where
   pub aimed : IsAimed e w
   pub time : ℕ
@@ -48,6 +55,7 @@ pub record IsHonestResult (e : Errand) (w : Walk) (words : List ℕ) (asked : �
   pub end : Machine
   pub made : ℕ
   pub noted : w.notes.now ≡ Some (sealed time)
+  pub small : time < 2 ^ 64
   pub run : HonestRun (second_setting e) (renoted (notes_of time slot) (first_start e)) end made
   pub words_are : words ≡ end.words
   pub reply : reply_of w ≡ end.bytes.items
@@ -71,9 +79,9 @@ pub record IsMisread (e : Errand) (w : Walk) (words : List ℕ) (asked : ℕ) : 
   pub off : SameOff w.first_log.items words e.taken
   pub questions : number ≤ asked
 
--- the log undoes all that it changed, or one old word in it was misread
+-- the log undoes all that it changed, and a noted time has 64 bits; or one old word in the log was misread
 pub data FirstStruck (e : Errand) (w : Walk) (words : List ℕ) (asked : ℕ) : Type 0 where
-  Restorable : undone w.first_log.items words ≡ e.taken → FirstStruck e w words asked
+  Restorable : NotesSmall w.notes.now → undone w.first_log.items words ≡ e.taken → FirstStruck e w words asked
   Misread : IsMisread e w words asked → FirstStruck e w words asked
 
 -- before the bucket is lent, nothing was made
@@ -118,10 +126,10 @@ pub record WasMisread (e : Errand) (w : Walk) (end : Machine) (asked : ℕ) : Ty
 abbrev pub pending : Walk → List Change
 pending w = take (length w.first_log.items - w.place.index) w.first_log.items
 
--- undoing what is pending gives the words that were taken; or the first log has a misread word; or a change that is not
--- pending was not undone
+-- undoing what is pending gives the words that were taken, and a noted time has 64 bits; or the first log has a misread
+-- word; or a change that is not pending was not undone
 pub data RestoreStruck (e : Errand) (w : Walk) (words : List ℕ) (asked : ℕ) : Type 0 where
-  Restorable : undone (pending w) words ≡ e.taken → RestoreStruck e w words asked
+  Restorable : NotesSmall w.notes.now → undone (pending w) words ≡ e.taken → RestoreStruck e w words asked
   Misread : (end : Machine) → WasMisread e w end asked → SameOff w.first_log.items words e.taken → RestoreStruck e w words asked
   Damaged : (end : Machine) → WasHonest e w end asked → (place : ℕ) (c : Change) → Stands w.first_log.items place c →
       length w.first_log.items - w.place.index ≤ place → slice_get words c.address ≢ Some c.was → RestoreStruck e w words asked
@@ -140,10 +148,12 @@ setting_on e bucket = setting_in (given_of e.service e.input e.geometry (Some bu
 abbrev pub ComesOn : Errand → Walk → List ℕ → List ℕ → Outcome → ℕ → Type 0
 ComesOn e w found words o n = after (setting_on e w.wanted) (start_on e found w.notes) n ≡ record { machine = second_machine w words; outcome = o }
 
--- it is honest on the words that were taken, and has asked no less than a first pass would; or on words that a misread log
--- or a change which was not undone left; or it was struck itself, and the first one was honest
+-- it is honest on the words that were taken, by notes whose time has 64 bits, and has asked no less than a first pass would;
+-- or it is honest on words that a misread log or a change which was not undone left; or it was struck itself, and the first
+-- one was honest
 pub data SecondStruck (e : Errand) (w : Walk) (words : List ℕ) (o : Outcome) (asked : ℕ) : Type 0 where
-  Good : (n : ℕ) → ComesOn e w e.taken words o n → first_asked (setting_on e w.wanted) (start_on e e.taken w.notes) n + asked_behind o ≤ asked → SecondStruck e w words o asked
+  Good : NotesSmall w.notes.now → (n : ℕ) → ComesOn e w e.taken words o n →
+      first_asked (setting_on e w.wanted) (start_on e e.taken w.notes) n + asked_behind o ≤ asked → SecondStruck e w words o asked
   Misread : (end : Machine) → WasMisread e w end asked → (found : List ℕ) → SameOff w.first_log.items found e.taken → (n : ℕ) → ComesOn e w found words o n → SecondStruck e w words o asked
   Damaged : (end : Machine) → WasHonest e w end asked → (place : ℕ) (c : Change) → Stands w.first_log.items place c →
       (found : List ℕ) → slice_get found c.address ≢ Some c.was → (n : ℕ) → ComesOn e w found words o n → SecondStruck e w words o asked

@@ -1,5 +1,5 @@
 //! Laws of the definitions, each the clause of a function that does nothing.
-ghost use Rattle.std.specs.Prelude.{◌≡◌, ℕ, ◌+◌, ◌*◌, ◌^◌, ◌<◌, ◌≤◌, List, [], Option, Some, None};
+ghost use Rattle.std.specs.Prelude.{◌≡◌, ℕ, ◌+◌, ◌*◌, ◌≤◌, List, [], Option, Some, None};
 ghost use Rattle.sei_fault.specs.Counts.{Counts};
 ghost use Rattle.sei_fault.specs.declared.place.Phase.{Phase};
 ghost use Rattle.mc_model.specs.declared.geometry.Geometry.{Geometry};
@@ -96,5 +96,5 @@ pub fn sound_handlers_are_trusted<H: Modeled>()
     ensures trusted { (h : H) (e : Errand) → IsServedBy (H.stands h) (H.answer h) e → IsTrusted e }
     ensures errand { (h : H) (e : Errand) → IsServedBy (H.stands h) (H.answer h) e → PassesGuard e → IsErrand e }
     ensures answered { (h : H) (e : Errand) (s : IsServedBy (H.stands h) (H.answer h) e) (w : Walk) (words : List ℕ) (asked : ℕ) →
-        (a : IsHonestResult e w words asked) → a.time < 2 ^ 64 → IsModelAnswer (H.stands h) (H.answer h) s.held e w words }
+        IsHonestResult e w words asked → IsModelAnswer (H.stands h) (H.answer h) s.held e w words }
 {}
