@@ -66,6 +66,11 @@ settles_case : (e : Errand) (w : Walk) (lent : Option (List ℕ)) (asked : ℕ) 
 settles_case e w lent asked (Right gate stands) = Right gate (struck_settles e w Nothing asked lent w.place.phase stands)
 settles_case e w lent asked (Lost gate fit) = Lost gate fit
 
+-- behind Take the wanted bucket is not stored
+stores_none : (p : Phase) (index : ℕ) → 2 ≤ phase_number p → IsNoStore p index
+stores_none Take index two = absurd (omega (arith, two))
+stores_none p index two = tt
+
 -- A step is isolated where it ends well.
 
 -- the gate is the phase's, or the traversal is lost and stays so
@@ -104,6 +109,7 @@ module _ (e : Errand) (trusted : IsTrusted e) (begin c d : Counts) (old new : Tr
         lends = lends_on e old.walk new.walk right loan left place lends kept state once;
         lost = λ wrong. absurd (wrong right);
         finishes = λ finished. right;
+        aims = λ two here. kept (stores_none old.walk.place.phase old.walk.place.index (omega (arith, two, here)));
         still = still;
       }
   isolates_so state number le twice goes wanted next (IsLost wrong stays) = record {
@@ -119,6 +125,7 @@ module _ (e : Errand) (trusted : IsTrusted e) (begin c d : Counts) (old new : Tr
     lends = λ went. subst (LendsOn new.walk left) (sym stays.want) (λ right. absurd (stays.lost went right));
     lost = λ was went right. stays.lost went right;
     finishes = λ finished. absurd (stays.unfinished finished);
+    aims = λ two right. absurd (wrong right);
     still = λ seven right. absurd (wrong right);
   }
 

@@ -1,5 +1,5 @@
 -- Over all steps of a traversal, each is wanted once at most.
-use Rattle.std.proofs.Common.{◌≡◌, ◌≢◌, ◌⊎◌, inl, inr, ℕ, ◌+◌, ◌≤◌, List, [], ◌∷◌, ◌++◌, Option, append-nil, sym, ap, ◌∙◌, subst, refl, arith}
+use Rattle.std.proofs.Common.{◌≡◌, ◌≢◌, ◌⊎◌, inl, inr, ℕ, ◌+◌, ◌≤◌, List, [], ◌∷◌, ◌++◌, Option, Some, None, append-nil, sym, ap, ◌∙◌, subst, refl, length, arith}
 use Rattle.std.proofs.lemmas.List.Elements.{filter-append}
 use Rattle.sei_fault.specs.Counts.{Counts}
 use Rattle.sei_fault.specs.Phases.{phase_number}
@@ -14,21 +14,23 @@ use Rattle.sei_traverse.specs.declared.turned.Want.{Want}
 use Rattle.sei_traverse.specs.declared.turned.Want.TheVariants.{Nothing, Take as WantTake, Enter as WantEnter, Give as WantGive}
 use Rattle.sei_traverse.specs.declared.walk.Walk.{Walk}
 use Rattle.sei_traverse.specs.Errand.{Errand}
-use Rattle.sei_traverse.specs.Facts.{IsRight, ClosesOnce, IsAborted, Isolates, closing_want}
+use Rattle.sei_traverse.specs.Facts.{IsRight, Wanted, ClosesOnce, IsAborted, Isolates, closing_want}
 use Rattle.sei_traverse.specs.Facts.ClosesOnce.{Stays, Closes, Lacks}
+use Rattle.sei_traverse.specs.OnWay.{lent_words}
 use Rattle.sei_traverse.specs.Phases.{reply_of, send_want}
 use Rattle.sei_traverse.specs.State.{TraversalState}
+use Rattle.sei_traverse.specs.Struck.{IsHonestResult, On}
 use Rattle.sei_traverse.specs.Wanting.{Steps, is_wanted, wanted_in, all_wants, WantsOnce}
 use Rattle.sei_traverse.specs.Wanting.Steps.{Begins, GoesOn}
 
--- what was wanted so far, by the number of closed phases. Where it is right still, the reply is the one of which Send was
--- closed
-data WantedTo (w : Walk) (right : Type 0) (wanted : List Want) : Type 0 where
-  None : w.gate.done ≤ 1 → wanted ≡ [] → WantedTo w right wanted
-  ToTake : (bucket : ℕ) → 2 ≤ w.gate.done → w.gate.done ≤ 7 → wanted ≡ WantTake bucket ∷ [] → WantedTo w right wanted
-  ToEnter : (bucket : ℕ) → w.gate.done ≡ 8 → wanted ≡ WantTake bucket ∷ WantEnter ∷ [] → WantedTo w right wanted
-  ToGive : (bucket : ℕ) → w.gate.done ≡ 9 → wanted ≡ WantTake bucket ∷ WantEnter ∷ WantGive ∷ [] → WantedTo w right wanted
-  All : (bucket : ℕ) (reply : List ℕ) → 10 ≤ w.gate.done → wanted ≡ all_wants bucket reply → (right → reply_of w ≡ reply) → WantedTo w right wanted
+-- what was wanted so far, by the number of closed phases. Where it is right still, the wanted bucket is the one of which
+-- Take was closed, and the reply the one of which Send was closed
+data WantedTo (e : Errand) (w : Walk) (right : Type 0) (wanted : List Want) : Type 0 where
+  ToNone : w.gate.done ≤ 1 → wanted ≡ [] → WantedTo e w right wanted
+  ToTake : (bucket : ℕ) → 2 ≤ w.gate.done → w.gate.done ≤ 7 → wanted ≡ WantTake bucket ∷ [] → (right → w.wanted ≡ bucket) → WantedTo e w right wanted
+  ToEnter : w.gate.done ≡ 8 → wanted ≡ WantTake e.call.bucket ∷ WantEnter ∷ [] → WantedTo e w right wanted
+  ToGive : w.gate.done ≡ 9 → wanted ≡ WantTake e.call.bucket ∷ WantEnter ∷ WantGive ∷ [] → WantedTo e w right wanted
+  ToAll : (reply : List ℕ) → 10 ≤ w.gate.done → wanted ≡ all_wants e.call.bucket reply → (right → reply_of w ≡ reply) → WantedTo e w right wanted
 
 -- and with one more want
 
@@ -39,108 +41,133 @@ wants_none : (wants : List Want) (wanted : List Want) → wanted_in wants ≡ wa
 wants_none wants wanted h = wants_more wants Nothing wanted h ∙ append-nil wanted
 
 -- what was wanted is a beginning of all wants
-wanted_once : (w : Walk) (right : Type 0) (wants : List Want) → WantedTo w right (wanted_in wants) → WantsOnce wants
-wanted_once w right wants (None gate is) = record { bucket = 0; reply = []; rest = all_wants 0 []; order = ap (λ (xs : List Want). xs ++ all_wants 0 []) is }
-wanted_once w right wants (ToTake bucket from to is) =
-    record { bucket = bucket; reply = []; rest = WantEnter ∷ WantGive ∷ []; order = ap (λ (xs : List Want). xs ++ WantEnter ∷ WantGive ∷ []) is }
-wanted_once w right wants (ToEnter bucket gate is) = record { bucket = bucket; reply = []; rest = WantGive ∷ []; order = ap (λ (xs : List Want). xs ++ WantGive ∷ []) is }
-wanted_once w right wants (ToGive bucket gate is) = record { bucket = bucket; reply = []; rest = []; order = ap (λ (xs : List Want). xs ++ []) is }
-wanted_once w right wants (All bucket reply gate is same) = record { bucket = bucket; reply = reply; rest = []; order = append-nil (wanted_in wants) ∙ is }
 
-none_before : (w : Walk) (right : Type 0) (wanted : List Want) → WantedTo w right wanted → w.gate.done ≤ 1 → wanted ≡ []
-none_before w right wanted (None gate is) before = is
-none_before w right wanted (ToTake bucket from to is) before = absurd (omega (arith, from, before))
-none_before w right wanted (ToEnter bucket gate is) before = absurd (omega (arith, gate, before))
-none_before w right wanted (ToGive bucket gate is) before = absurd (omega (arith, gate, before))
-none_before w right wanted (All bucket reply gate is same) before = absurd (omega (arith, gate, before))
+none_once : (e : Errand) (wants : List Want) → wanted_in wants ≡ [] → WantsOnce e wants
+none_once e wants is = record {
+  bucket = e.call.bucket;
+  reply = [];
+  rest = all_wants e.call.bucket [];
+  order = ap (λ (xs : List Want). xs ++ all_wants e.call.bucket []) is;
+  aimed = λ two. refl;
+}
 
-taken_before : (w : Walk) (right : Type 0) (wanted : List Want) → WantedTo w right wanted → 2 ≤ w.gate.done → w.gate.done ≤ 7 → (bucket : ℕ) × (wanted ≡ WantTake bucket ∷ [])
-taken_before w right wanted (None gate is) after before = absurd (omega (arith, gate, after))
-taken_before w right wanted (ToTake bucket from to is) after before = (bucket, is)
-taken_before w right wanted (ToEnter bucket gate is) after before = absurd (omega (arith, gate, before))
-taken_before w right wanted (ToGive bucket gate is) after before = absurd (omega (arith, gate, before))
-taken_before w right wanted (All bucket reply gate is same) after before = absurd (omega (arith, gate, before))
+all_once : (e : Errand) (wants : List Want) (reply : List ℕ) → wanted_in wants ≡ all_wants e.call.bucket reply → WantsOnce e wants
+all_once e wants reply is = record { bucket = e.call.bucket; reply = reply; rest = []; order = append-nil (wanted_in wants) ∙ is; aimed = λ two. refl }
 
-entered_before : (w : Walk) (right : Type 0) (wanted : List Want) → WantedTo w right wanted → w.gate.done ≡ 8 → (bucket : ℕ) × (wanted ≡ WantTake bucket ∷ WantEnter ∷ [])
-entered_before w right wanted (None gate is) at = absurd (omega (arith, gate, at))
-entered_before w right wanted (ToTake bucket from to is) at = absurd (omega (arith, to, at))
-entered_before w right wanted (ToEnter bucket gate is) at = (bucket, is)
-entered_before w right wanted (ToGive bucket gate is) at = absurd (omega (arith, gate, at))
-entered_before w right wanted (All bucket reply gate is same) at = absurd (omega (arith, gate, at))
+wanted_once : (e : Errand) (w : Walk) (right : Type 0) (wants : List Want) → WantedTo e w right (wanted_in wants) → WantsOnce e wants
+wanted_once e w right wants (ToNone gate is) = none_once e wants is
+wanted_once e w right wants (ToTake bucket from to is aimed) =
+    let one : length (wanted_in wants) ≡ 1 = ap length is in
+    record {
+      bucket = bucket;
+      reply = [];
+      rest = WantEnter ∷ WantGive ∷ [];
+      order = ap (λ (xs : List Want). xs ++ WantEnter ∷ WantGive ∷ []) is;
+      aimed = λ two. absurd (omega (arith, two, one));
+    }
+wanted_once e w right wants (ToEnter gate is) =
+    record { bucket = e.call.bucket; reply = []; rest = WantGive ∷ []; order = ap (λ (xs : List Want). xs ++ WantGive ∷ []) is; aimed = λ two. refl }
+wanted_once e w right wants (ToGive gate is) = record { bucket = e.call.bucket; reply = []; rest = []; order = ap (λ (xs : List Want). xs ++ []) is; aimed = λ two. refl }
+wanted_once e w right wants (ToAll reply gate is same) = all_once e wants reply is
 
-given_before : (w : Walk) (right : Type 0) (wanted : List Want) → WantedTo w right wanted → w.gate.done ≡ 9 → (bucket : ℕ) × (wanted ≡ WantTake bucket ∷ WantEnter ∷ WantGive ∷ [])
-given_before w right wanted (None gate is) at = absurd (omega (arith, gate, at))
-given_before w right wanted (ToTake bucket from to is) at = absurd (omega (arith, to, at))
-given_before w right wanted (ToEnter bucket gate is) at = absurd (omega (arith, gate, at))
-given_before w right wanted (ToGive bucket gate is) at = (bucket, is)
-given_before w right wanted (All bucket reply gate is same) at = absurd (omega (arith, gate, at))
+-- what was wanted, by the number of closed phases
 
-all_before : (w : Walk) (right : Type 0) (wanted : List Want) → WantedTo w right wanted → 10 ≤ w.gate.done → (bucket : ℕ) × (reply : List ℕ) × (wanted ≡ all_wants bucket reply) × (right → reply_of w ≡ reply)
-all_before w right wanted (None gate is) after = absurd (omega (arith, gate, after))
-all_before w right wanted (ToTake bucket from to is) after = absurd (omega (arith, to, after))
-all_before w right wanted (ToEnter bucket gate is) after = absurd (omega (arith, gate, after))
-all_before w right wanted (ToGive bucket gate is) after = absurd (omega (arith, gate, after))
-all_before w right wanted (All bucket reply gate is same) after = (bucket, reply, is, same)
+module _ (e : Errand) (w : Walk) (right : Type 0) (wanted : List Want) where
+  none_before : WantedTo e w right wanted → w.gate.done ≤ 1 → wanted ≡ []
+  none_before (ToNone gate is) before = is
+  none_before (ToTake bucket from to is aimed) before = absurd (omega (arith, from, before))
+  none_before (ToEnter gate is) before = absurd (omega (arith, gate, before))
+  none_before (ToGive gate is) before = absurd (omega (arith, gate, before))
+  none_before (ToAll reply gate is same) before = absurd (omega (arith, gate, before))
+
+  taken_before : WantedTo e w right wanted → 2 ≤ w.gate.done → w.gate.done ≤ 7 → (bucket : ℕ) × (wanted ≡ WantTake bucket ∷ []) × (right → w.wanted ≡ bucket)
+  taken_before (ToNone gate is) after before = absurd (omega (arith, gate, after))
+  taken_before (ToTake bucket from to is aimed) after before = (bucket, is, aimed)
+  taken_before (ToEnter gate is) after before = absurd (omega (arith, gate, before))
+  taken_before (ToGive gate is) after before = absurd (omega (arith, gate, before))
+  taken_before (ToAll reply gate is same) after before = absurd (omega (arith, gate, before))
+
+  entered_before : WantedTo e w right wanted → w.gate.done ≡ 8 → wanted ≡ WantTake e.call.bucket ∷ WantEnter ∷ []
+  entered_before (ToNone gate is) at = absurd (omega (arith, gate, at))
+  entered_before (ToTake bucket from to is aimed) at = absurd (omega (arith, to, at))
+  entered_before (ToEnter gate is) at = is
+  entered_before (ToGive gate is) at = absurd (omega (arith, gate, at))
+  entered_before (ToAll reply gate is same) at = absurd (omega (arith, gate, at))
+
+  given_before : WantedTo e w right wanted → w.gate.done ≡ 9 → wanted ≡ WantTake e.call.bucket ∷ WantEnter ∷ WantGive ∷ []
+  given_before (ToNone gate is) at = absurd (omega (arith, gate, at))
+  given_before (ToTake bucket from to is aimed) at = absurd (omega (arith, to, at))
+  given_before (ToEnter gate is) at = absurd (omega (arith, gate, at))
+  given_before (ToGive gate is) at = is
+  given_before (ToAll reply gate is same) at = absurd (omega (arith, gate, at))
+
+  all_before : WantedTo e w right wanted → 10 ≤ w.gate.done → (reply : List ℕ) × (wanted ≡ all_wants e.call.bucket reply) × (right → reply_of w ≡ reply)
+  all_before (ToNone gate is) after = absurd (omega (arith, gate, after))
+  all_before (ToTake bucket from to is aimed) after = absurd (omega (arith, to, after))
+  all_before (ToEnter gate is) after = absurd (omega (arith, gate, after))
+  all_before (ToGive gate is) after = absurd (omega (arith, gate, after))
+  all_before (ToAll reply gate is same) after = (reply, is, same)
 
 -- A step.
 
--- where a phase is closed or none, and Take is not closed without its want
-data GoesBy (old new : Walk) : Type 0 where
-  StaysBy : new.gate.done ≡ old.gate.done → new.want ≡ Nothing → GoesBy old new
-  ClosesBy : (phase : Phase) → old.gate.done ≡ phase_number phase → new.gate.done ≡ old.gate.done + 1 → new.want ≡ closing_want new phase → GoesBy old new
+-- where the words are those of an honest run, the wanted bucket is the call's
+aimed_on : (e : Errand) (w : Walk) (lent : Option (List ℕ)) (asked : ℕ) → On lent (λ words. IsHonestResult e w words asked) → w.wanted ≡ e.call.bucket
+aimed_on e w None asked h = absurd h
+aimed_on e w (Some words) asked h = h.aimed.wanted
 
-module _ (old new : Walk) (wants : List Want) (still : 7 ≤ old.gate.done → IsRight old → reply_of new ≡ reply_of old) where
+module _ (e : Errand) (old new : Walk) (wants : List Want) (h : WantedTo e old (IsRight old) (wanted_in wants)) (aims : 2 ≤ old.gate.done → IsRight old → new.wanted ≡ old.wanted)
+    (still : 7 ≤ old.gate.done → IsRight old → reply_of new ≡ reply_of old) where
   abbrev After : Want → Type 0
-  After want = WantedTo new (IsRight old) (wanted_in (wants ++ want ∷ []))
+  After want = WantedTo e new (IsRight old) (wanted_in (wants ++ want ∷ []))
 
-  stays : WantedTo old (IsRight old) (wanted_in wants) → new.gate.done ≡ old.gate.done → After Nothing
-  stays (None gate is) same = None (omega (arith, gate, same)) (wants_none wants _ is)
-  stays (ToTake bucket from to is) same = ToTake bucket (omega (arith, from, same)) (omega (arith, to, same)) (wants_none wants _ is)
-  stays (ToEnter bucket gate is) same = ToEnter bucket (same ∙ gate) (wants_none wants _ is)
-  stays (ToGive bucket gate is) same = ToGive bucket (same ∙ gate) (wants_none wants _ is)
-  stays (All bucket reply gate is reply_is) same =
-      All bucket reply (omega (arith, gate, same)) (wants_none wants _ is) (λ right. still (omega (arith, gate)) right ∙ reply_is right)
+  -- no phase is closed
+  stays_by : WantedTo e old (IsRight old) (wanted_in wants) → new.gate.done ≡ old.gate.done → After Nothing
+  stays_by (ToNone gate is) same = ToNone (omega (arith, gate, same)) (wants_none wants _ is)
+  stays_by (ToTake bucket from to is aimed) same =
+      ToTake bucket (omega (arith, from, same)) (omega (arith, to, same)) (wants_none wants _ is) (λ right. aims from right ∙ aimed right)
+  stays_by (ToEnter gate is) same = ToEnter (same ∙ gate) (wants_none wants _ is)
+  stays_by (ToGive gate is) same = ToGive (same ∙ gate) (wants_none wants _ is)
+  stays_by (ToAll reply gate is reply_is) same =
+      ToAll reply (omega (arith, gate, same)) (wants_none wants _ is) (λ right. still (omega (arith, gate)) right ∙ reply_is right)
 
-  between : WantedTo old (IsRight old) (wanted_in wants) → 2 ≤ old.gate.done → old.gate.done ≤ 6 → new.gate.done ≡ old.gate.done + 1 → After Nothing
-  between h from to more =
-      let t = taken_before old (IsRight old) (wanted_in wants) h from (omega (arith, to)) in
-      ToTake t.0 (omega (arith, from, more)) (omega (arith, to, more)) (wants_none wants _ t.1)
+  -- one from First to Verify is
+  between : 2 ≤ old.gate.done → old.gate.done ≤ 6 → new.gate.done ≡ old.gate.done + 1 → After Nothing
+  between from to more =
+      let t = taken_before e old (IsRight old) (wanted_in wants) h from (omega (arith, to)) in
+      ToTake t.0 (omega (arith, from, more)) (omega (arith, to, more)) (wants_none wants _ t.1) (λ right. aims from right ∙ t.2 right)
 
-  closes : WantedTo old (IsRight old) (wanted_in wants) → (phase : Phase) → old.gate.done ≡ phase_number phase → new.gate.done ≡ old.gate.done + 1 → After (closing_want new phase)
-  closes h Guard gate more = None (omega (arith, gate, more)) (wants_none wants _ (none_before old (IsRight old) (wanted_in wants) h (omega (arith, gate))))
-  closes h Take gate more =
+  -- any other is; where Enter is wanted, the wanted bucket is the call's
+  closes : (phase : Phase) → IsRight old → old.gate.done ≡ phase_number phase → new.gate.done ≡ old.gate.done + 1 → (lent : Option (List ℕ)) (asked : ℕ) →
+      Wanted e new lent asked (closing_want new phase) → After (closing_want new phase)
+  closes Guard right gate more lent asked so = ToNone (omega (arith, gate, more)) (wants_none wants _ (none_before e old (IsRight old) (wanted_in wants) h (omega (arith, gate))))
+  closes Take right gate more lent asked so =
       ToTake new.wanted (omega (arith, gate, more)) (omega (arith, gate, more))
-      (wants_more wants (WantTake new.wanted) [] (none_before old (IsRight old) (wanted_in wants) h (omega (arith, gate))))
-  closes h First gate more = between h (omega (arith, gate)) (omega (arith, gate)) more
-  closes h Restore gate more = between h (omega (arith, gate)) (omega (arith, gate)) more
-  closes h Second gate more = between h (omega (arith, gate)) (omega (arith, gate)) more
-  closes h Compare gate more = between h (omega (arith, gate)) (omega (arith, gate)) more
-  closes h Verify gate more = between h (omega (arith, gate)) (omega (arith, gate)) more
-  closes h Enter gate more =
-      let t = taken_before old (IsRight old) (wanted_in wants) h (omega (arith, gate)) (omega (arith, gate)) in
-      ToEnter t.0 (omega (arith, gate, more)) (wants_more wants WantEnter _ t.1)
-  closes h Give gate more =
-      let t = entered_before old (IsRight old) (wanted_in wants) h gate in
-      ToGive t.0 (omega (arith, gate, more)) (wants_more wants WantGive _ t.1)
-  closes h Send gate more =
-      let t = given_before old (IsRight old) (wanted_in wants) h gate in
-      All t.0 (reply_of new) (omega (arith, gate, more)) (wants_more wants (send_want (reply_of new)) _ t.1) (λ right. refl)
-  closes h Done gate more =
-      let t = all_before old (IsRight old) (wanted_in wants) h (omega (arith, gate)) in
-      All t.0 t.1 (omega (arith, gate, more)) (wants_none wants _ t.2) (λ right. still (omega (arith, gate)) right ∙ t.3 right)
-
-  goes_by : WantedTo old (IsRight old) (wanted_in wants) → GoesBy old new → After new.want
-  goes_by h (StaysBy same none) = subst After (sym none) (stays h same)
-  goes_by h (ClosesBy phase gate more want) = subst After (sym want) (closes h phase gate more)
+      (wants_more wants (WantTake new.wanted) [] (none_before e old (IsRight old) (wanted_in wants) h (omega (arith, gate)))) (λ right. refl)
+  closes First right gate more lent asked so = between (omega (arith, gate)) (omega (arith, gate)) more
+  closes Restore right gate more lent asked so = between (omega (arith, gate)) (omega (arith, gate)) more
+  closes Second right gate more lent asked so = between (omega (arith, gate)) (omega (arith, gate)) more
+  closes Compare right gate more lent asked so = between (omega (arith, gate)) (omega (arith, gate)) more
+  closes Verify right gate more lent asked so = between (omega (arith, gate)) (omega (arith, gate)) more
+  closes Enter right gate more lent asked so =
+      let t = taken_before e old (IsRight old) (wanted_in wants) h (omega (arith, gate)) (omega (arith, gate)) in
+      let bucket : t.0 ≡ e.call.bucket = sym (t.2 right) ∙ sym (aims (omega (arith, gate)) right) ∙ aimed_on e new lent asked so in
+      ToEnter (omega (arith, gate, more)) (wants_more wants WantEnter (WantTake e.call.bucket ∷ []) (t.1 ∙ ap (λ (b : ℕ). let xs : List Want = WantTake b ∷ [] in xs) bucket))
+  closes Give right gate more lent asked so =
+      ToGive (omega (arith, gate, more)) (wants_more wants WantGive _ (entered_before e old (IsRight old) (wanted_in wants) h gate))
+  closes Send right gate more lent asked so =
+      ToAll (reply_of new) (omega (arith, gate, more)) (wants_more wants (send_want (reply_of new)) _ (given_before e old (IsRight old) (wanted_in wants) h gate)) (λ right. refl)
+  closes Done right gate more lent asked so =
+      let t = all_before e old (IsRight old) (wanted_in wants) h (omega (arith, gate)) in
+      ToAll t.0 (omega (arith, gate, more)) (wants_none wants _ t.1) (λ right. still (omega (arith, gate)) right ∙ t.2 right)
 
 -- Behind the steps.
 
 -- where the traversal goes on, and where it ended
-abbrev IsWanted : List Want → TraversalState → State → Type 0
-IsWanted wants t Went = WantedTo t.walk (IsRight t.walk) (wanted_in wants)
-IsWanted wants t Finished = (bucket : ℕ) × (wanted_in wants ≡ all_wants bucket (reply_of t.walk))
-IsWanted wants t Refused = wanted_in wants ≡ []
-IsWanted wants t (Aborted abort) = WantsOnce wants
+abbrev IsWanted : Errand → List Want → TraversalState → State → Type 0
+IsWanted e wants t Went = WantedTo e t.walk (IsRight t.walk) (wanted_in wants)
+IsWanted e wants t Finished = wanted_in wants ≡ all_wants e.call.bucket (reply_of t.walk)
+IsWanted e wants t Refused = wanted_in wants ≡ []
+IsWanted e wants t (Aborted abort) = WantsOnce e wants
 
 -- an equation of numbers that is not refuted holds
 unrefuted : (m n : ℕ) → ((m ≡ n → ⊥) → ⊥) → m ≡ n
@@ -151,59 +178,64 @@ unrefuted m n h = by_case (equal_or m n)
     by_case (inr other) = absurd (h (λ same. other same))
 
 -- where it is right behind a step only if it was so before
-still_right : (old new : Walk) (wanted : List Want) → (IsRight new → IsRight old) → WantedTo new (IsRight old) wanted → WantedTo new (IsRight new) wanted
-still_right old new wanted was (None gate is) = None gate is
-still_right old new wanted was (ToTake bucket from to is) = ToTake bucket from to is
-still_right old new wanted was (ToEnter bucket gate is) = ToEnter bucket gate is
-still_right old new wanted was (ToGive bucket gate is) = ToGive bucket gate is
-still_right old new wanted was (All bucket reply gate is same) = All bucket reply gate is (λ right. same (was right))
+still_right : (e : Errand) (old new : Walk) (wanted : List Want) → (IsRight new → IsRight old) → WantedTo e new (IsRight old) wanted → WantedTo e new (IsRight new) wanted
+still_right e old new wanted was (ToNone gate is) = ToNone gate is
+still_right e old new wanted was (ToTake bucket from to is aimed) = ToTake bucket from to is (λ right. aimed (was right))
+still_right e old new wanted was (ToEnter gate is) = ToEnter gate is
+still_right e old new wanted was (ToGive gate is) = ToGive gate is
+still_right e old new wanted was (ToAll reply gate is same) = ToAll reply gate is (λ right. same (was right))
 
-module _ (e : Errand) (begin now : Counts) (wants : List Want) (old new : TraversalState) (loan left : Option BucketWords) (h : WantedTo old.walk (IsRight old.walk) (wanted_in wants)) where
+module _ (e : Errand) (begin now : Counts) (wants : List Want) (old new : TraversalState) (loan left : Option BucketWords) (h : WantedTo e old.walk (IsRight old.walk) (wanted_in wants)) (state : State)
+    (i : Isolates e old new loan left begin now new.walk.want state) where
   abbrev so_far : List Want
   so_far = wants ++ new.walk.want ∷ []
 
-  goes_to : (state : State) → Isolates e old new loan left begin now new.walk.want state → WantedTo new.walk (IsRight old.walk) (wanted_in so_far) → IsWanted so_far new state
-  goes_to Went i w = still_right old.walk new.walk (wanted_in so_far) (λ right. unrefuted _ _ (λ wrong. i.lost wrong refl right)) w
-  goes_to Finished i w =
+  still_reply : 7 ≤ old.walk.gate.done → IsRight old.walk → reply_of new.walk ≡ reply_of old.walk
+  still_reply seven right = ap (λ (p : PassState). p.bytes.items) (i.still seven right).0.second
+
+  -- where Take is not closed without its want
+  goes_by : ClosesOnce e old.walk new.walk (IsAborted state) → WantedTo e new.walk (IsRight old.walk) (wanted_in so_far) ⊎ ((wanted_in so_far ≡ []) × IsAborted state)
+  goes_by (Stays same none) =
+      inl (subst (λ (w : Want). WantedTo e new.walk (IsRight old.walk) (wanted_in (wants ++ w ∷ []))) (sym none) (stays_by e old.walk new.walk wants h i.aims still_reply h same))
+  goes_by (Closes phase at gate more want) =
+      inl (subst (λ (w : Want). WantedTo e new.walk (IsRight old.walk) (wanted_in (wants ++ w ∷ []))) (sym want)
+      (closes e old.walk new.walk wants h i.aims still_reply phase (gate ∙ ap phase_number (sym at)) gate more (lent_words left) i.wants.asked
+      (subst (Wanted e new.walk (lent_words left) i.wants.asked) want i.wants.wanted)))
+  goes_by (Lacks was is none lacks ended) =
+      inr (subst (λ (w : Want). wanted_in (wants ++ w ∷ []) ≡ []) (sym none) (wants_none wants [] (none_before e old.walk (IsRight old.walk) (wanted_in wants) h (omega (arith, was)))), ended)
+
+module _ (e : Errand) (begin now : Counts) (wants : List Want) (old new : TraversalState) (loan left : Option BucketWords) where
+  goes_to : (state : State) → Isolates e old new loan left begin now new.walk.want state →
+      WantedTo e new.walk (IsRight old.walk) (wanted_in (wants ++ new.walk.want ∷ [])) ⊎ ((wanted_in (wants ++ new.walk.want ∷ []) ≡ []) × IsAborted state) → IsWanted e (wants ++ new.walk.want ∷ []) new state
+  goes_to Went i (inl w) = still_right e old.walk new.walk _ (λ right. unrefuted _ _ (λ wrong. i.lost wrong refl right)) w
+  goes_to Finished i (inl w) =
       let gate : new.walk.gate.done ≡ 11 = i.goes.gate in
-      let a = all_before new.walk (IsRight old.walk) (wanted_in so_far) w (omega (arith, gate)) in
-      (a.0, a.2 ∙ ap (all_wants a.0) (sym (a.3 (i.finishes refl))))
-  goes_to Refused i w = none_before new.walk (IsRight old.walk) (wanted_in so_far) w i.goes.gate
-  goes_to (Aborted abort) i w = wanted_once new.walk (IsRight old.walk) so_far w
+      let a = all_before e new.walk (IsRight old.walk) _ w (omega (arith, gate)) in
+      a.1 ∙ ap (all_wants e.call.bucket) (sym (a.2 (i.finishes refl)))
+  goes_to Refused i (inl w) = none_before e new.walk (IsRight old.walk) _ w i.goes.gate
+  goes_to (Aborted abort) i (inl w) = wanted_once e new.walk (IsRight old.walk) (wants ++ new.walk.want ∷ []) w
+  goes_to Went i (inr w) = absurd w.1
+  goes_to Finished i (inr w) = absurd w.1
+  goes_to Refused i (inr w) = absurd w.1
+  goes_to (Aborted abort) i (inr w) = none_once e (wants ++ new.walk.want ∷ []) w.0
 
-  lacks_to : (state : State) → IsAborted state → wanted_in so_far ≡ [] → IsWanted so_far new state
-  lacks_to Went a is = absurd a
-  lacks_to Finished a is = absurd a
-  lacks_to Refused a is = absurd a
-  lacks_to (Aborted abort) a is = record { bucket = 0; reply = []; rest = all_wants 0 []; order = ap (λ (xs : List Want). xs ++ all_wants 0 []) is }
-
-  still_reply : (state : State) → Isolates e old new loan left begin now new.walk.want state → 7 ≤ old.walk.gate.done → IsRight old.walk → reply_of new.walk ≡ reply_of old.walk
-  still_reply state i seven right = ap (λ (p : PassState). p.bytes.items) (i.still seven right).0.second
-
-  goes_on : (state : State) → Isolates e old new loan left begin now new.walk.want state → ClosesOnce e old.walk new.walk (IsAborted state) → IsWanted so_far new state
-  goes_on state i (Stays same none) = goes_to state i (goes_by old.walk new.walk wants (still_reply state i) h (StaysBy same none))
-  goes_on state i (Closes phase at gate more want) = goes_to state i (goes_by old.walk new.walk wants (still_reply state i) h (ClosesBy phase gate more want))
-  goes_on state i (Lacks was is none lacks ended) =
-      lacks_to state ended
-      (subst (λ (w : Want). wanted_in (wants ++ w ∷ []) ≡ []) (sym none) (wants_none wants [] (none_before old.walk (IsRight old.walk) (wanted_in wants) h (omega (arith, was)))))
-
-are_wanted : (e : Errand) (begin : Counts) (wants : List Want) (t : TraversalState) (state : State) → Steps e begin wants t state → IsWanted wants t state
-are_wanted e begin wants t state Begins = None (omega arith) refl
+are_wanted : (e : Errand) (begin : Counts) (wants : List Want) (t : TraversalState) (state : State) → Steps e begin wants t state → IsWanted e wants t state
+are_wanted e begin wants t state Begins = ToNone (omega arith) refl
 are_wanted e begin wants t state (GoesOn before old new loan left now state' steps i) =
-    goes_on e begin now before old new loan left (are_wanted e begin before old Went steps) state i i.once
+    goes_to e begin now before old new loan left state i (goes_by e begin now before old new loan left (are_wanted e begin before old Went steps) state i i.once)
 
 -- The clauses.
 
-pub wanted_at_most_once : (e : Errand) (begin : Counts) (wants : List Want) (t : TraversalState) (state : State) → Steps e begin wants t state → WantsOnce wants
+pub wanted_at_most_once : (e : Errand) (begin : Counts) (wants : List Want) (t : TraversalState) (state : State) → Steps e begin wants t state → WantsOnce e wants
 wanted_at_most_once e begin wants t state steps = by_state state (are_wanted e begin wants t state steps)
   where
-    by_state : (s : State) → IsWanted wants t s → WantsOnce wants
-    by_state Went h = wanted_once t.walk (IsRight t.walk) wants h
-    by_state Finished h = record { bucket = h.0; reply = reply_of t.walk; rest = []; order = append-nil (wanted_in wants) ∙ h.1 }
-    by_state Refused h = record { bucket = 0; reply = []; rest = all_wants 0 []; order = ap (λ (xs : List Want). xs ++ all_wants 0 []) h }
+    by_state : (s : State) → IsWanted e wants t s → WantsOnce e wants
+    by_state Went h = wanted_once e t.walk (IsRight t.walk) wants h
+    by_state Finished h = all_once e wants (reply_of t.walk) h
+    by_state Refused h = none_once e wants h
     by_state (Aborted abort) h = h
 
-pub finished_wants : (e : Errand) (begin : Counts) (wants : List Want) (t : TraversalState) → Steps e begin wants t Finished → (bucket : ℕ) × (wanted_in wants ≡ all_wants bucket (reply_of t.walk))
+pub finished_wants : (e : Errand) (begin : Counts) (wants : List Want) (t : TraversalState) → Steps e begin wants t Finished → wanted_in wants ≡ all_wants e.call.bucket (reply_of t.walk)
 finished_wants e begin wants t steps = are_wanted e begin wants t Finished steps
 
 pub refused_wants : (e : Errand) (begin : Counts) (wants : List Want) (t : TraversalState) → Steps e begin wants t Refused → wanted_in wants ≡ []

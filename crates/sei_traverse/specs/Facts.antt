@@ -161,8 +161,9 @@ pub record IsLikeWalk (old new : Walk) : Type 0 where
   pub wire : new.wire ≡ old.wire
 
 -- a step keeps what is known; what must hold where it wants that, holds, and is wanted once; a caller who lends what was
--- wanted lends it again where it follows the wants; what is lost stays lost, and does not finish; and from the step of
--- Enter on, as long as no phase was left without its closing, the words that are lent and the reply stay as they are
+-- wanted lends it again where it follows the wants; what is lost stays lost, and does not finish; and as long as no phase
+-- was left without its closing, the wanted bucket stays the same from the step of First on, and from that of Enter on the
+-- words that are lent and the reply stay as they are
 pub record Isolates (e : Errand) (old new : TraversalState) (loan left : Option BucketWords) (begin now : Counts) (want : Want) (state : State) : Type 0 where
   pub goes : FactsAfter e new (lent_words left) begin now state
   pub wants : Wants e new left begin now want
@@ -170,4 +171,5 @@ pub record Isolates (e : Errand) (old new : TraversalState) (loan left : Option 
   pub lends : state ≡ Went → LendsOn new.walk left want
   pub lost : (IsRight old.walk → ⊥) → state ≡ Went → IsRight new.walk → ⊥
   pub finishes : state ≡ Finished → IsRight old.walk
+  pub aims : 2 ≤ old.walk.gate.done → IsRight old.walk → new.walk.wanted ≡ old.walk.wanted
   pub still : 7 ≤ old.walk.gate.done → IsRight old.walk → IsLikeWalk old.walk new.walk × (lent_words left ≡ lent_words loan)

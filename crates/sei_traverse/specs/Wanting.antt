@@ -1,5 +1,5 @@
 -- What a whole traversal wants, over all its steps.
-use Rattle.std.specs.Prelude.{◌≡◌, ℕ, Bool, true, false, List, [], ◌∷◌, ◌++◌, filter, Option}
+use Rattle.std.specs.Prelude.{◌≡◌, ℕ, Bool, true, false, List, [], ◌∷◌, ◌++◌, ◌≤◌, length, filter, Option}
 use Rattle.sei_fault.specs.Counts.{Counts}
 use Rattle.sei_words.specs.Words.{BucketWords}
 use Rattle.sei_traverse.specs.declared.turned.State.{State}
@@ -31,9 +31,10 @@ abbrev pub all_wants : ℕ → List ℕ → List Want
 all_wants bucket reply = wanted_in (WantTake bucket ∷ WantEnter ∷ WantGive ∷ send_want reply ∷ [])
 
 -- for some bucket and reply, what was wanted is a beginning of all wants: so each was wanted once at most, none without
--- those before it, and no second bucket
-pub record WantsOnce (wants : List Want) : Type 0 where
+-- those before it, and no second bucket. Where more than Take was wanted, the bucket is the call's
+pub record WantsOnce (e : Errand) (wants : List Want) : Type 0 where
   pub bucket : ℕ
   pub reply : List ℕ
   pub rest : List Want
   pub order : wanted_in wants ++ rest ≡ all_wants bucket reply
+  pub aimed : 2 ≤ length (wanted_in wants) → bucket ≡ e.call.bucket

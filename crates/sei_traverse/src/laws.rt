@@ -56,12 +56,13 @@ pub fn faults_are_isolated()
 {}
 
 /// Over all steps of a traversal that are isolated, `Take`, `Enter`, `Give` and `Send` are wanted in this
-/// order, each once at most. Where it is finished, all of them were wanted, but for `Send` where its reply
-/// is empty; and where it is refused, none was.
+/// order, each once at most, and where more than `Take` was wanted, its bucket is the call's. Where it is
+/// finished, all of them were wanted, but for `Send` where its reply is empty; and where it is refused,
+/// none was.
 pub fn wants_come_once()
-    ensures once { (e : Errand) (begin : Counts) (wants : List Want) (t : TraversalState) (state : State) → Steps e begin wants t state → WantsOnce wants }
+    ensures once { (e : Errand) (begin : Counts) (wants : List Want) (t : TraversalState) (state : State) → Steps e begin wants t state → WantsOnce e wants }
     ensures finished { (e : Errand) (begin : Counts) (wants : List Want) (t : TraversalState) → Steps e begin wants t State.Finished →
-        (bucket : ℕ) × (wanted_in wants ≡ all_wants bucket (reply_of t.walk)) }
+        wanted_in wants ≡ all_wants e.call.bucket (reply_of t.walk) }
     ensures refused { (e : Errand) (begin : Counts) (wants : List Want) (t : TraversalState) → Steps e begin wants t State.Refused → wanted_in wants ≡ [] }
 {}
 
