@@ -33,6 +33,7 @@ fn a_word_that_changed_twice_comes_back(rt: HostRuntime) -> Result<(), Fail> {
     assert_eq!(rt; words.get(41), Some(5));
     assert_eq!(rt; undo(&log, 1, Some(&mut words), &mut core), Ok(()));
     assert_eq!(rt; words.get(41), Some(4));
+    logs_are_undone();
     Ok(())
 }
 
