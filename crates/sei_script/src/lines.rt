@@ -1,4 +1,4 @@
-ghost use Rattle.std.specs.Prelude.{◌≡◌};
+ghost use Rattle.std.specs.Prelude.{◌≡◌, ◌<◌, Some, length, slice_get};
 
 use super::line::ScriptLine;
 use mc_model::Geometry;
@@ -43,5 +43,20 @@ impl Script {
         ensures { result.now ≡ self.now }
     {
         self.lines.as_slice()
+    }
+
+    /// How many lines it has.
+    pub fn len(&self) -> u64
+        ensures { result ≡ length self.now }
+    {
+        self.lines.len() as u64
+    }
+
+    /// The line with this number, from 0.
+    pub fn line(&self, i: u64) -> &ScriptLine
+        requires { i < length self.now }
+        ensures { slice_get self.now i ≡ Some result.now }
+    {
+        &self.lines[i as usize]
     }
 }

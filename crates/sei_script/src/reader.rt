@@ -300,8 +300,8 @@ mod tests {
             match read_script(rt.alloc(), text.as_bytes()) {
                 Err(_) => assert!(rt; false, "{spelled} reads"),
                 Ok(script) => {
-                    assert_eq!(rt; script.lines().len(), 3);
-                    match &script.lines()[2] {
+                    assert_eq!(rt; script.len(), 3);
+                    match script.line(2) {
                         ScriptLine::Fault { c, t, plan } => {
                             assert_eq!(rt; *c, 0);
                             assert_eq!(rt; *t, 9);
@@ -320,8 +320,8 @@ mod tests {
         let text =
             b"geometry 1 1 3\nopen 0 plain\nhex 0 \nhex 0 00ff6a0d\nclock 18446744073709551615\nfault 0 0 guard at 0 skip\nfault 0 1 guard at 0 skip\n";
         let script = read_script(rt.alloc(), text)?;
-        assert_eq!(rt; script.lines().len(), 7);
-        match (&script.lines()[2], &script.lines()[3], &script.lines()[4]) {
+        assert_eq!(rt; script.len(), 7);
+        match (script.line(2), script.line(3), script.line(4)) {
             (
                 ScriptLine::Hex { bytes: none, .. },
                 ScriptLine::Hex { bytes, .. },
@@ -342,8 +342,8 @@ mod tests {
             b"# a\r\ngeometry 2 5 4\r\n\nopen 0 plain\nsay 0 get a\\r\\n\\\\\\x0a\xff \r\nsay 0 \ndrain\n";
         let script = read_script(rt.alloc(), text)?;
         assert_eq!(rt; script.geometry().slots, 5);
-        assert_eq!(rt; script.lines().len(), 5);
-        match &script.lines()[2] {
+        assert_eq!(rt; script.len(), 5);
+        match script.line(2) {
             ScriptLine::Say { c, bytes } => {
                 assert_eq!(rt; *c, 0);
                 assert_eq!(rt; bytes.bytes(), b"get a\r\n\\\n\xff ".as_slice());
