@@ -1,4 +1,4 @@
-ghost use Rattle.std.specs.Prelude.{◌≡◌, ◌+◌, ◌<◌, ◌++◌, ℕ, List, IfOk, IfSome, OnOk, Some};
+ghost use Rattle.std.specs.Prelude.{◌≡◌, ◌+◌, ◌<◌, ◌++◌, ℕ, List, IfOk, IfSome, OnErr, OnOk, Some};
 ghost use Rattle.sei_script.specs.Escapes.{unescaped, escaped, escape_of, hex_value, hex_digit, step_of, IsPlace};
 ghost use Rattle.sei_script.specs.Unescapes.{Unescapes};
 
@@ -85,29 +85,30 @@ fn hex_digit(n: u8) -> u8
 }
 
 fn escape_byte(b: u8, into: &mut Vec<u8>) -> Result<(), AllocError>
-    ensures { OnOk result (into.new.items ≡ into.old.items ++ escape_of b) }
+    ensures appended { OnOk result (into.new.items ≡ into.old.items ++ escape_of b) }
+    ensures err { OnErr result (into.new.items ≡ into.old.items) }
 {
     match b {
-        b'\r' => into.extend_from_slice(b"\\r")?,
-        b'\n' => into.extend_from_slice(b"\\n")?,
-        b'\\' => into.extend_from_slice(b"\\\\")?,
-        b' '..=b'~' => into.push(b)?,
-        _ => {
-            into.extend_from_slice(b"\\x")?;
-            into.push(hex_digit(b / 16))?;
-            into.push(hex_digit(b % 16))?;
-        }
+        b'\r' => into.extend_from_slice(b"\\r"),
+        b'\n' => into.extend_from_slice(b"\\n"),
+        b'\\' => into.extend_from_slice(b"\\\\"),
+        b' '..=b'~' => into.extend_from_slice(&[b]),
+        _ => into.extend_from_slice(&[b'\\', b'x', hex_digit(b / 16), hex_digit(b % 16)]),
     }
-    Ok(())
 }
 
 /// Appends the bytes as they are printed.
 pub fn escape(bytes: &[u8], into: &mut Vec<u8>) -> Result<(), AllocError>
     ensures appended { OnOk result (into.new.items ≡ into.old.items ++ escaped bytes.now) }
+    ensures err { OnErr result (into.new.items ≡ into.old.items) }
     ensures readable { unescaped (escaped bytes.now) ≡ Some bytes.now }
 {
+    let before = into.len();
     for b in bytes {
-        escape_byte(*b, into)?;
+        if let Err(error) = escape_byte(*b, into) {
+            into.truncate(before);
+            return Err(error);
+        }
     }
     Ok(())
 }
