@@ -1,10 +1,12 @@
-ghost use Rattle.std.specs.Prelude.{◌≡◌, ◌≢◌, ◌≤◌, IfSome, IfOk, OnOk, true};
+ghost use Rattle.std.specs.Prelude.{◌≡◌, ◌≢◌, ◌+◌, ◌≤◌, IfSome, IfOk, OnOk, true};
 ghost use Rattle.std.specs.Io.KnownBytes.{IsAtEnd, append_known};
 ghost use Rattle.sei_outside.specs.Faults.{Rose};
 ghost use Rattle.sei_outside.specs.Bytes.{WrotePart};
+ghost use Rattle.sei_outside.specs.Reads.{TookAtMost};
 ghost use Rattle.mc_model.specs.Server.{IsValid};
 ghost use Rattle.sei_script.specs.Context.{empty_context, geometry_of};
 ghost use Rattle.sei_script.specs.Fit.{AreFit};
+ghost use Rattle.sei_script.specs.Limits.{script_limit};
 ghost use Rattle.sei_main.specs.State.{limits_of};
 ghost use Rattle.sei_main.specs.Run.{run_by, run_of};
 ghost use Rattle.sei_main.specs.Serving.{step_by};
@@ -121,6 +123,7 @@ fn replay_all<S: Source, K: Sink>(
     ensures status { IsReplayStatus result }
     ensures read_to_end { result ≡ Status.Ok → IsAtEnd (S.left source.new) }
     ensures aborted_at_end { result ≡ Status.Aborted → IsAtEnd (S.left source.new) }
+    ensures taken { TookAtMost (script_limit + 1) (S.left source.old) (S.left source.new) }
     ensures read_fault { result ≡ Status.ReadFault → Rose (S.faults source.old) (S.faults source.new) }
     ensures write_fault { result ≡ Status.WriteFault → Rose (K.faults sink.old) (K.faults sink.new) }
     ensures read_later { S.faults source.old ≤ S.faults source.new }
@@ -138,8 +141,9 @@ fn replay_all<S: Source, K: Sink>(
 /// a time; with `history` also a line for each entry.
 ///
 /// It always returns. On a script that does not read it writes one line, `script line N: why`. A read
-/// that fails ends it before anything is written, and a write that fails at once. Nothing is said of
-/// the bytes of a source or a sink that does not tell them.
+/// that fails ends it before anything is written, and a write that fails at once. At most one byte more
+/// than a script may have is taken from the source. Nothing is said of the bytes of a source or a sink
+/// that does not tell them.
 pub fn replay<S: Source, K: Sink>(
     alloc: Global,
     source: &mut S,
@@ -151,6 +155,7 @@ pub fn replay<S: Source, K: Sink>(
     ensures status { IsReplayStatus result }
     ensures read_to_end { result ≡ Status.Ok → IsAtEnd (S.left source.new) }
     ensures aborted_at_end { result ≡ Status.Aborted → IsAtEnd (S.left source.new) }
+    ensures taken { TookAtMost (script_limit + 1) (S.left source.old) (S.left source.new) }
     ensures read_fault { result ≡ Status.ReadFault → Rose (S.faults source.old) (S.faults source.new) }
     ensures write_fault { result ≡ Status.WriteFault → Rose (K.faults sink.old) (K.faults sink.new) }
     ensures read_later { S.faults source.old ≤ S.faults source.new }

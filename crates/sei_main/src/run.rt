@@ -1,6 +1,8 @@
-ghost use Rattle.std.specs.Prelude.{◌≡◌, ◌≤◌, true, false, IfSome, map, string_bytes};
+ghost use Rattle.std.specs.Prelude.{◌≡◌, ◌+◌, ◌≤◌, true, false, IfSome, map, string_bytes};
 ghost use Rattle.std.specs.Io.KnownBytes.{IsAtEnd};
 ghost use Rattle.sei_outside.specs.Faults.{Rose};
+ghost use Rattle.sei_outside.specs.Reads.{TookAtMost};
+ghost use Rattle.sei_script.specs.Limits.{script_limit};
 ghost use Rattle.sei_main.specs.Headline.{IsLegalRun, IsNumberedRun, SendsRepliesRun, NothingAfterAbortRun, OnlyStruckAbortsRun, WhenQuiet, IsPlain, PlansFault, AnswersAllRun};
 ghost use Rattle.sei_main.specs.Answers.{StatusSays, OnInput, IfScript, WrotePlainPart, HasRun, IsDecided, IsReplayStatus, reading_in};
 ghost use Rattle.sei_main.specs.Forms.{is_replay, UsageWritten};
@@ -55,6 +57,7 @@ pub fn run<S: Source, K: Sink>(
     ensures answer { is_replay (map string_bytes words.now) ≡ true → IfSome (S.left source.old) (λ input. StatusSays false (reading_in input) (K.written sink.old) (K.written sink.new) result) }
     ensures read_to_end { result ≡ Status.Ok → IsAtEnd (S.left source.new) }
     ensures aborted_at_end { result ≡ Status.Aborted → IsAtEnd (S.left source.new) }
+    ensures taken { is_replay (map string_bytes words.now) ≡ true → TookAtMost (script_limit + 1) (S.left source.old) (S.left source.new) }
     ensures complete { is_replay (map string_bytes words.now) ≡ true → ¬ Rose (S.faults source.old) (S.faults source.new) → ¬ Rose (K.faults sink.old) (K.faults sink.new)
         → IfSome (S.left source.old) (λ input. IsDecided (reading_in input) result) }
     ensures legal { HasRun result → OnInput (S.left source.old) IsLegalRun }

@@ -12,6 +12,12 @@ ReadGives old new into (Took n) = (0 < n) × (n ≤ length into) × (old ≡ pre
 ReadGives old new into End = (new ≡ old) × IsAtEnd old
 ReadGives old new into Failed = new ≡ old
 
+-- at most so many bytes were taken off what the source had left, where it tells that
+pub record TookAtMost (most : ℕ) (old new : Option (List ℕ)) : Type 0 where
+  pub part : List ℕ
+  pub split : old ≡ prepend_known part new
+  pub within : length part ≤ most
+
 -- how many bytes a read took
 abbrev pub taken : Read → ℕ
 taken (Took n) = n

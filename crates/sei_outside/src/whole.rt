@@ -1,7 +1,8 @@
 //! Reading all there is, up to a limit.
-ghost use Rattle.std.specs.Prelude.{◌≡◌, ◌<◌, ◌≤◌, IfOk, IfSome, length, vec_len};
+ghost use Rattle.std.specs.Prelude.{◌≡◌, ◌+◌, ◌<◌, ◌≤◌, IfOk, IfSome, length, vec_len};
 ghost use Rattle.std.specs.Io.KnownBytes.{IsAtEnd};
 ghost use Rattle.sei_outside.specs.Faults.{Rose};
+ghost use Rattle.sei_outside.specs.Reads.{TookAtMost};
 
 use super::{Read, Source};
 use std::alloc::Global;
@@ -21,13 +22,14 @@ pub enum Unread {
 const PIECE: usize = 4096;
 
 /// All bytes that the source has left, at most `limit` of them. After an error the bytes that were
-/// read so far are gone from the source.
+/// read so far are gone from the source: one more than the limit at most.
 pub fn read_all<S: Source>(alloc: Global, source: &mut S, limit: usize) -> Result<Vec<u8>, Unread>
     ensures whole { IfOk result (λ bytes. IfSome (S.left source.old) (λ all. bytes.items ≡ all)) }
     ensures within { IfOk result (λ bytes. vec_len bytes ≤ limit) }
     ensures end { IfOk result (λ bytes. IsAtEnd (S.left source.new)) }
     ensures too_big { result ≡ Err Unread.TooBig
         → IfSome (S.left source.old) (λ all. limit < length all) }
+    ensures taken { TookAtMost (limit + 1) (S.left source.old) (S.left source.new) }
     ensures failed { result ≡ Err Unread.Failed → Rose (S.faults source.old) (S.faults source.new) }
     ensures later { S.faults source.old ≤ S.faults source.new }
 {
