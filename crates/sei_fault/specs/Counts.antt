@@ -11,7 +11,7 @@ pub record Counts : Type 0 where
 abbrev pub counted : ℕ → ℕ
 counted n = min (n + 1) (2 ^ 128 - 1)
 
--- a room that is told was above 0, and is less by one
+-- a room that is told was above 0, and is less by one; one that is not told stays not told
 abbrev pub Lowered : Option ℕ → Option ℕ → Type 0
 Lowered None None = Unit {0}
 Lowered None (Some s) = ⊥

@@ -10,7 +10,7 @@ abbrev pub OneStrike : {R : Type 0} → Tree R → R → Type 0
 OneStrike (Done r) x = ⊥
 OneStrike (Ask q k) x = ((a : Answer q) × (x ≡ honest (k a))) ⊎ OneStrike (k (honestly_to q)) x
 
--- none fell: the end is the clean one, and n questions were counted. Or one fell, or more.
+-- none fell: the end is the clean one, and n questions were counted, while their count is not at its last value. Or one fell, or more.
 pub data Split {R : Type 0} (x clean : R) (once : Type 0) (n : ℕ) (c d : Counts) : Type 0 where
   Clean : x ≡ clean → d.struck ≡ c.struck → (d.asked < 2 ^ 128 - 1 → d.asked ≡ c.asked + n) → Split x clean once n c d
   Once : once → d.struck ≡ c.struck + 1 → Split x clean once n c d

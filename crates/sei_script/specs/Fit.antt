@@ -7,7 +7,7 @@ use Rattle.sei_script.specs.declared.line.Context.{Context}
 use Rattle.sei_script.specs.declared.line.ScriptLine.{ScriptLine}
 use Rattle.sei_script.specs.declared.line.ScriptLine.TheVariants.{Geometry, Open, Say, Hex, Drain, Clock, Fault}
 
--- the first line is a valid geometry and no other is one; a connection is opened in its turn, and is open where a line speaks of it
+-- the first line is a valid geometry and no other is one; a connection is opened in its turn, its number below the most, and is open where a line speaks of it
 abbrev pub IsWellPlaced : Context → ScriptLine → Type 0
 IsWellPlaced x (Geometry g) = (x.geometry ≡ None) × IsValid g
 IsWellPlaced x (Open c) = IsSome x.geometry × (c ≡ x.opens) × (c < most_connections)

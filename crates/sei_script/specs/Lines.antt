@@ -39,7 +39,7 @@ first_number (Some text) = option_map (λ n. part n (behind_word text)) (number_
 abbrev pub IsCapped : Option Part → Option Part → Type 0
 IsCapped capped first = capped ≡ option_map (λ p. part (min p.number (2 ^ 64 - 1)) p.rest) first
 
--- the same of a number below 2^64
+-- as `first_number`, of a number below 2^64
 abbrev pub first_exact : Option (List ℕ) → Option Part
 first_exact None = None
 first_exact (Some text) = option_map (λ n. part n (behind_word text)) (exact_of (word_of text))
