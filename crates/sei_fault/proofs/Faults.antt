@@ -1,6 +1,6 @@
 -- A planned fault strikes only where its answer is another than the honest one.
-use Rattle.std.proofs.Common.{◌≡◌, ℕ, Bool, true, false, Some, None, ap, sym, ◌∙◌, refl, eq-eqb}
-use Rattle.std.specs.Prelude.{not, ◌&&◌, ◌==◌, if◌then◌else◌, Option}
+use Rattle.std.proofs.Common.{◌≡◌, ℕ, Bool, true, false, Some, None, ap, sym, ◌∙◌, refl, arith, eq-eqb, ◌<◌}
+use Rattle.std.specs.Prelude.{not, ◌&&◌, ◌==◌, if◌then◌else◌, Option, is_some, unwrap_or}
 use lib.Bits.{bit_xor, xor_self, xor_assoc, xor_comm, xor_zero_r}
 use Rattle.sei_fault.specs.declared.place.Place.{Place}
 use Rattle.sei_fault.specs.declared.plan.Kind.{Kind}
@@ -12,7 +12,8 @@ use Rattle.sei_fault.specs.Phases.{phase_number}
 use Rattle.sei_fault.specs.Plans.{same_place, fault}
 use Rattle.sei_fault.specs.Question.{Question, Answer, honestly_to}
 use Rattle.sei_fault.specs.Question.Question.{Value, Written, Test, Often, Goes}
-use Rattle.sei_fault.specs.Script.{ScriptState, stage_at, altered_in, altered}
+use Rattle.sei_fault.specs.Script.{ScriptState, stage_at, altered_in, altered, stage_after, script_answer, script_next, script_counts, fallen}
+use Rattle.sei_fault.specs.ScriptLaw.{same_fallen}
 
 -- where there is something, the test was answered so
 chosen : {A : Type 0} (b : Bool) (x a : A) → (if b then Some x else None) ≡ Some a → (b ≡ true) × (x ≡ a)
@@ -76,3 +77,12 @@ armed_alters plan stage q a e f = let z : ⊥ = cc in absurd z
 -- and so of the core: what it counts as a strike is no honest answer
 pub strike_alters : (s : ScriptState) (q : Question) (a : Answer q) → altered s q ≡ Some a → a ≡ honestly_to q → ⊥
 strike_alters s q a e f = armed_alters s.plan (stage_at s.plan s.stage q) q a e f
+
+-- where the count of strikes rises, the answer was altered
+counted_by : (s : ScriptState) (q : Question) (o : Option (Answer q)) → altered s q ≡ o → fallen s.stage < fallen (stage_after (stage_at s.plan s.stage q) (is_some o) q) →
+    unwrap_or o (honestly_to q) ≡ honestly_to q → ⊥
+counted_by s q None e h f = omega (arith, h, same_fallen s.plan s.stage q)
+counted_by s q (Some a) e h f = strike_alters s q a e f
+
+pub counted_alters : (s : ScriptState) (q : Question) → (script_counts s).struck < (script_counts (script_next s q)).struck → script_answer s q ≡ honestly_to q → ⊥
+counted_alters s q h f = counted_by s q (altered s q) refl h f

@@ -1,9 +1,8 @@
 -- Runs of pieces of work: one behind another, as a core's own, and what always holds of their ends.
-use Rattle.std.proofs.Common.{◌≡◌, inl, inr, ap, subst, sym, refl}
+use Rattle.std.proofs.Common.{◌≡◌, ap, subst, sym}
 use Rattle.sei_fault.specs.Counts.{Counts, Answered}
 use Rattle.sei_fault.specs.Question.{Question, Answer, honestly_to}
-use Rattle.sei_fault.specs.Strikes.{OneStrike}
-use Rattle.sei_fault.specs.Tree.{Tree, Runs, any_core, honest, bound, mapped, Always}
+use Rattle.sei_fault.specs.Tree.{Tree, Runs, any_core, honest, bound, Always}
 use Rattle.sei_fault.specs.Tree.Tree.{Done, Ask}
 
 -- a run of a core that keeps the law of `Core` is, by its counts, a run of any core
@@ -20,20 +19,6 @@ runs_bound {S} {A} {B} gives (Done r) f c m d x y (e, g) h =
     subst (λ (z : A). Runs gives (f z) c d y) e (subst (λ (s : S). Runs gives (f x) s d y) g h)
 runs_bound gives (Ask q k) f c m d x y (a, n, g, r) h = (a, n, g, runs_bound gives (k a) f n m d x y r h)
 
--- and back: the state and the end between the two
-pub bound_runs : {S A B : Type 0} (gives : S → (q : Question) → Answer q → S → Type 0) (t : Tree A) (f : A → Tree B) (c d : S) (y : B) →
-    Runs gives (bound t f) c d y → (m : S) × (x : A) × Runs gives t c m x × Runs gives (f x) m d y
-bound_runs gives (Done r) f c d y h = (c, r, (refl, refl), h)
-bound_runs gives (Ask q k) f c d y (a, n, g, r) = let i = bound_runs gives (k a) f n d y r in (i.0, i.1, (a, n, g, i.2), i.3)
-
-pub runs_mapped : {S A B : Type 0} (gives : S → (q : Question) → Answer q → S → Type 0) (f : A → B) (t : Tree A) (c d : S) (x : A) → Runs gives t c d x → Runs gives (mapped f t) c d (f x)
-runs_mapped gives f (Done r) c d x (e, g) = (ap f e, g)
-runs_mapped gives f (Ask q k) c d x (a, m, g, r) = (a, m, g, runs_mapped gives f (k a) m d x r)
-
-pub mapped_runs : {S A B : Type 0} (gives : S → (q : Question) → Answer q → S → Type 0) (f : A → B) (t : Tree A) (c d : S) (x : B) → Runs gives (mapped f t) c d x → (y : A) × Runs gives t c d y × (x ≡ f y)
-mapped_runs gives f (Done r) c d x (e, g) = (r, (refl, g), e)
-mapped_runs gives f (Ask q k) c d x (a, m, g, r) = let i = mapped_runs gives f (k a) m d x r in (i.0, (a, m, g, i.1), i.2)
-
 -- what always holds, holds of the end of each run
 pub always : {S R : Type 0} (gives : S → (q : Question) → Answer q → S → Type 0) (P : R → Type 0) (t : Tree R) (c d : S) (x : R) → Always P t → Runs gives t c d x → P x
 always gives P (Done r) c d x p (e, f) = subst P (sym e) p
@@ -43,9 +28,3 @@ always gives P (Ask q k) c d x p (a, m, g, r) = always gives P (k a) m d x (p a)
 pub always_honest : {R : Type 0} (P : R → Type 0) (t : Tree R) → Always P t → P (honest t)
 always_honest P (Done r) p = p
 always_honest P (Ask q k) p = always_honest P (k (honestly_to q)) (p (honestly_to q))
-
--- and of each end with one strike
-pub always_once : {R : Type 0} (P : R → Type 0) (t : Tree R) (x : R) → Always P t → OneStrike t x → P x
-always_once P (Done r) x p s = absurd s
-always_once P (Ask q k) x p (inl (a, e)) = subst P (sym e) (always_honest P (k a) (p a))
-always_once P (Ask q k) x p (inr s) = always_once P (k (honestly_to q)) x (p (honestly_to q)) s

@@ -1,7 +1,7 @@
 -- How many questions were asked in a run, how many strikes fell, and where it ends.
 use Rattle.std.proofs.Common.{◌≡◌, ℕ, ◌+◌, ◌-◌, ◌^◌, ◌<◌, ◌≤◌, ◌⊎◌, inl, inr, Some, None, ap, subst, ◌∙◌, arith, refl}
 use Rattle.std.specs.declared.option.Option.{Option}
-use Rattle.sei_fault.specs.Counts.{Counts, Answered, Lowered, counted, IsAtMostOne}
+use Rattle.sei_fault.specs.Counts.{Counts, Answered, Lowered, counted}
 use Rattle.sei_fault.specs.Counts.Answered.{Honest, Struck}
 use Rattle.sei_fault.specs.Question.{Question, Answer, honestly_to}
 use Rattle.sei_fault.specs.Strikes.{OneStrike, Split}
@@ -63,17 +63,6 @@ lowered_room : (r : ℕ) (after : Option ℕ) → Lowered (Some r) after → (s 
 lowered_room r None l = absurd l
 lowered_room r (Some s) l = (s, refl, l)
 
-within_room_ask : {P : Type 0} (c m d : Counts) (r : ℕ) → Answered P c m → c.room ≡ Some r → ((s : ℕ) → m.room ≡ Some s → d.struck ≤ m.struck + s) → d.struck ≤ c.struck + r
-within_room_ask c m d r (Honest e f) told rest = omega (arith, ap (λ (y : Counts). y.struck) f, rest r (ap (λ (y : Counts). y.room) f ∙ told))
-within_room_ask c m d r (Struck a e l) told rest =
-    let s = lowered_room r m.room (subst (λ (o : Option ℕ). Lowered o m.room) told l) in
-    omega (arith, e, s.2, rest s.0 s.1)
-
--- at most as many strikes fall as a told room allows
-pub within_room : {R : Type 0} (t : Tree R) (c d : Counts) (x : R) (r : ℕ) → Runs any_core t c d x → c.room ≡ Some r → d.struck ≤ c.struck + r
-within_room (Done r) c d x n (e, f) told = omega (arith, ap (λ (y : Counts). y.struck) f)
-within_room (Ask q k) c d x n (a, m, g, r) told = within_room_ask c m d n g told (λ s h. within_room (k a) m d x s r h)
-
 room_left_ask : {P : Type 0} (c m d : Counts) (r : ℕ) → Answered P c m → c.room ≡ Some r →
     ((s : ℕ) → m.room ≡ Some s → (n : ℕ) × (d.room ≡ Some n) × (d.struck + n ≡ m.struck + s)) → (n : ℕ) × (d.room ≡ Some n) × (d.struck + n ≡ c.struck + r)
 room_left_ask c m d r (Honest e f) told rest =
@@ -96,12 +85,3 @@ pub core_room_left : {S R : Type 0} (gives : S → (q : Question) → Answer q �
     (t : Tree R) (c d : S) (x : R) (r : ℕ) → Runs gives t c d x → (counts c).room ≡ Some r →
     (s : ℕ) × ((counts d).room ≡ Some s) × ((counts d).struck + s ≡ (counts c).struck + r)
 core_room_left gives counts law t c d x r run told = room_left t (counts c) (counts d) x r (counted_runs gives counts law t c d x run) told
-
--- a room that allows one strike at most is told
-pub at_most_one : (o : Option ℕ) → IsAtMostOne o → (r : ℕ) × (o ≡ Some r) × (r ≤ 1)
-at_most_one None h = absurd h
-at_most_one (Some r) h = (r, refl, h)
-
--- and is 1 at most
-pub one_at_most : (o : Option ℕ) (r : ℕ) → IsAtMostOne o → o ≡ Some r → r ≤ 1
-one_at_most o r h e = subst IsAtMostOne e h

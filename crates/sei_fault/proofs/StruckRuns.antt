@@ -3,18 +3,11 @@ use Rattle.std.proofs.Common.{◌≡◌, ℕ, ◌+◌, ◌-◌, ◌^◌, ◌<◌
 use Rattle.sei_fault.specs.Counts.{Counts, Answered, counted}
 use Rattle.sei_fault.specs.Counts.Answered.{Honest, Struck}
 use Rattle.sei_fault.specs.Question.{Answer, honestly_to}
-use Rattle.sei_fault.specs.Strikes.{OneStrike}
 use Rattle.sei_fault.specs.StruckRuns.{StrikesHere, StruckRun}
 use Rattle.sei_fault.specs.Tree.{Tree, Runs, any_core, honest, questions, bound, Always}
 use Rattle.sei_fault.specs.Tree.Tree.{Done, Ask}
 use Rattle.sei_fault.proofs.Bound.{honest_bound, questions_bound}
 use Rattle.sei_fault.proofs.Runs.{always_honest}
-
--- the same run without its count
-pub struck_once : {R : Type 0} (t : Tree R) (x : R) (n : ℕ) → StruckRun t x n → OneStrike t x
-struck_once (Done r) x n s = absurd s
-struck_once (Ask q k) x n (inl h) = inl (h.answer, h.end)
-struck_once (Ask q k) x n (inr (m, e, s)) = inr (struck_once (k (honestly_to q)) x m s)
 
 -- what always holds, holds of its end
 pub always_struck : {R : Type 0} (P : R → Type 0) (t : Tree R) (x : R) (n : ℕ) → Always P t → StruckRun t x n → P x

@@ -35,7 +35,7 @@ read_fallen stage.Struck = refl
 read_fallen stage.Over = refl
 
 -- where nothing was altered, no strike fell
-same_fallen : (plan : Option Planned) (s : Stage) (q : Question) → fallen (stage_after (stage_at plan s q) false q) ≡ fallen s
+pub same_fallen : (plan : Option Planned) (s : Stage) (q : Question) → fallen (stage_after (stage_at plan s q) false q) ≡ fallen s
 same_fallen plan s (Value h) = read_fallen s
 same_fallen plan s (Written h) = refl
 same_fallen plan s (Test h) = refl

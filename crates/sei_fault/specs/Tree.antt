@@ -31,11 +31,6 @@ abbrev pub bound : {A B : Type 0} → Tree A → (A → Tree B) → Tree B
 bound (Done r) f = f r
 bound (Ask q k) f = Ask q (λ a. bound (k a) f)
 
--- the same work, with f of its end
-abbrev pub mapped : {A B : Type 0} → (A → B) → Tree A → Tree B
-mapped f (Done r) = Done (f r)
-mapped f (Ask q k) = Ask q (λ a. mapped f (k a))
-
 -- P holds of the end, whatever the answers are
 abbrev pub Always : {R : Type 0} → (R → Type 0) → Tree R → Type 0
 Always P (Done r) = P r

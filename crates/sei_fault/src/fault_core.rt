@@ -1,5 +1,5 @@
 //! The core that a step asks for each of its effects.
-ghost use Rattle.std.specs.Prelude.{◌≡◌, ℕ};
+ghost use Rattle.std.specs.Prelude.{◌≡◌};
 ghost use Rattle.sei_fault.specs.Counts.{Counts, Answered, IsAtMostOne};
 ghost use Rattle.sei_fault.specs.Question.{Question, Answer, honestly_to};
 ghost use Rattle.sei_fault.specs.Question.Question.{Value, Written, Test, Often, Goes};
@@ -42,8 +42,6 @@ pub trait Core {
 
 /// A core that strikes at most once in a traversal.
 pub trait Single: Core {
-    // What a core may tell of plans for later traversals comes here, as ghost members.
-
     /// Traversal number `t`, from 0, begins.
     fn begin(&mut self, t: u64)
         ensures asked { (Self.counts self.new).asked ≡ (Self.counts self.old).asked }

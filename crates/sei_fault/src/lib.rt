@@ -6,6 +6,7 @@
 
 mod cause;
 mod fault_core;
+mod laws;
 mod place;
 mod plain;
 mod plan;
@@ -17,6 +18,7 @@ mod tests;
 
 pub use cause::AbortCause;
 pub use fault_core::{Core, Single};
+pub use laws::strikes_alter;
 pub use place::{Act, Phase, Place, Site, Times};
 pub use plain::PlainCore;
 pub use plan::{Kind, Planned, Select};

@@ -1,7 +1,6 @@
 //! The core that never strikes.
 ghost use Rattle.std.specs.Prelude.{◌≡◌};
 ghost use Rattle.sei_fault.specs.Counts.{counted};
-ghost use Rattle.sei_fault.specs.Question.Question.{Value, Written, Test, Often, Goes};
 ghost use Rattle.sei_fault.specs.Scripted.{function_core};
 ghost use Rattle.sei_fault.specs.Plain.{plain_counts, plain_answer, plain_next, plain_lawful};
 

@@ -1,7 +1,7 @@
 //! The faults that a script may plan: at which step, and of which kind.
 ghost use Rattle.std.specs.Prelude.{◌≡◌, ℕ};
 ghost use Rattle.sei_fault.specs.declared.place.Site.{Site};
-ghost use Rattle.sei_fault.specs.Plans.{same_phase, same_place, selects, fits, fault};
+ghost use Rattle.sei_fault.specs.Plans.{same_place, selects, fits, fault};
 ghost use Rattle.sei_fault.specs.Question.Question.{Value, Written, Test, Often, Goes};
 
 use super::{Act, Phase, Place, Site, Times};

@@ -102,6 +102,7 @@ fn a_mask_of_0_alters_nothing(rt: HostRuntime) {
     let mut core = core_with(Select::Index(5), Kind::Read { nth: 0, mask: 0 });
     assert_eq!(rt; core.times(LOAD), Times::Once);
     assert_eq!(rt; core.value(3), 3);
+    strikes_alter();
 }
 
 #[test]

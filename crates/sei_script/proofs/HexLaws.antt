@@ -1,6 +1,6 @@
 -- Bytes that are written as pairs of digits, pair by pair.
-use Rattle.std.proofs.Common.{◌≡◌, ℕ, ◌+◌, ◌*◌, ◌≤◌, ◌<◌, List, [], ◌∷◌, ◌++◌, length, drop, get_or, Option, Some, None, refl, ap, sym, ◌∙◌, arith}
-use Rattle.std.proofs.lemmas.List.{append_assoc, append-nil}
+use Rattle.std.proofs.Common.{◌≡◌, ℕ, ◌+◌, ◌*◌, ◌≤◌, List, [], ◌∷◌, ◌++◌, length, drop, get_or, Option, Some, None, refl, ap, sym, ◌∙◌, arith}
+use Rattle.std.proofs.lemmas.List.{append_assoc}
 use Rattle.sei_script.specs.Escapes.{hex_value, joined}
 use Rattle.sei_script.specs.Hexadecimal.{byte_before, unhexed}
 
@@ -23,30 +23,3 @@ pair_more bs rest h l whole few p q i =
     ∙ ap (λ (o : Option ℕ). joined bs (byte_before (hex_value (get_or rest 0 0)) o (unhexed (drop 2 rest)))) q
     ∙ sym (ap (joined bs) (two rest few))
     ∙ i
-
--- a first byte that is no digit
-pub first_none : (bs rest : List ℕ) (whole : Option (List ℕ)) → 2 ≤ length rest → None ≡ hex_value (get_or rest 0 0) → joined bs (unhexed rest) ≡ whole → None ≡ whole
-first_none bs rest whole few p i =
-    ap (λ (o : Option ℕ). joined bs (byte_before o (hex_value (get_or rest 1 0)) (unhexed (drop 2 rest)))) p
-    ∙ sym (ap (joined bs) (two rest few))
-    ∙ i
-
--- and a second one
-pub second_none : (bs rest : List ℕ) (h : ℕ) (whole : Option (List ℕ)) → 2 ≤ length rest → Some h ≡ hex_value (get_or rest 0 0) → None ≡ hex_value (get_or rest 1 0)
-    → joined bs (unhexed rest) ≡ whole → None ≡ whole
-second_none bs rest h whole few p q i =
-    ap (λ (o : Option ℕ). joined bs (byte_before (Some h) o (unhexed (drop 2 rest)))) q
-    ∙ ap (λ (o : Option ℕ). joined bs (byte_before o (hex_value (get_or rest 1 0)) (unhexed (drop 2 rest)))) p
-    ∙ sym (ap (joined bs) (two rest few))
-    ∙ i
-
--- nothing is left
-pub none_left : (bs rest : List ℕ) (whole : Option (List ℕ)) → length rest ≡ 0 → joined bs (unhexed rest) ≡ whole → Some bs ≡ whole
-none_left bs [] whole e i = ap (λ (xs : List ℕ). Some xs) (sym (append-nil bs)) ∙ i
-none_left bs (b ∷ rest) whole e i = absurd (omega (arith, e))
-
--- one byte is left
-pub one_left : (bs rest : List ℕ) (whole : Option (List ℕ)) → 0 < length rest → length rest < 2 → joined bs (unhexed rest) ≡ whole → None ≡ whole
-one_left bs [] whole l m i = absurd (omega (arith, l))
-one_left bs (b ∷ []) whole l m i = i
-one_left bs (b ∷ c ∷ rest) whole l m i = absurd (omega (arith, m))
