@@ -1,5 +1,5 @@
 //! The comparisons, each of which is one test of the core's.
-ghost use Rattle.std.specs.Prelude.{◌≡◌, ◌<◌, Option, length, slice_get};
+ghost use Rattle.std.specs.Prelude.{◌≡◌, ◌<◌, length, slice_get};
 ghost use Rattle.std.specs.Option.{option_copied};
 ghost use Rattle.sei_fault.specs.Counts.{Answered};
 ghost use Rattle.sei_fault.specs.Tree.{Runs};
