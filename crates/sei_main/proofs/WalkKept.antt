@@ -275,13 +275,13 @@ module _ (k : Geometry) (parsed : ℕ → Option Parsed) where
         (subst (λ (b : ℕ). Always (Ran (parsed_words s.parsed) b (second_machine w words)) (step_tree s index (second_machine w words))) (ap budget_of is) (ran_found s index (second_machine w words) (slice_get s.statements index))))
 
     -- undoing leaves as many words
-    undo_word_long : (words : List ℕ) (c : Change) (a : ℕ) (o : Option ℕ) → Always (λ (u : Undone). length u.words ≡ length words) (undo_word words c a o)
-    undo_word_long words c a None = refl
-    undo_word_long words c a (Some word) = λ was x. length-set words a x
+    undo_word_long : (words : List ℕ) (a was : ℕ) (o : Option ℕ) → Always (λ (u : Undone). length u.words ≡ length words) (undo_word words a was o)
+    undo_word_long words a was None = refl
+    undo_word_long words a was (Some word) = λ x. length-set words a x
 
     undo_long : (words : List ℕ) (o : Option Change) → Always (λ (u : Undone). length u.words ≡ length words) (undo_at words o)
     undo_long words None = refl
-    undo_long words (Some c) = λ a. undo_word_long words c a (slice_get words a)
+    undo_long words (Some c) = λ a was. undo_word_long words a was (slice_get words a)
 
     kept_undone : (words : List ℕ) → length words ≡ length before → (index : ℕ) (cause : Option AbortCause) → Always KeptBy (undone_as w words index cause)
     kept_undone words long index None = same words long

@@ -29,7 +29,7 @@ set_past (y ∷ ys) zero x e = search
 set_past (y ∷ ys) (suc i) x e = ap (λ (l : List ℕ). y ∷ l) (set_past ys i x e)
 
 -- undoing without a strike puts the old word in, or finds no word to replace
-undo_words : (words : List ℕ) (c : Change) (a : ℕ) (o : Option ℕ) → slice_get words a ≡ o → (honest (undo_word words c a o)).words ≡ slice_set words a c.was
+undo_words : (words : List ℕ) (c : Change) (a : ℕ) (o : Option ℕ) → slice_get words a ≡ o → (honest (undo_word words a c.was o)).words ≡ slice_set words a c.was
 undo_words words c a None e = sym (set_past words a c.was e)
 undo_words words c a (Some w) e = search
 
@@ -74,7 +74,7 @@ pub same_length : (before : List ℕ) (log : List Change) (after : List ℕ) →
 same_length before log after leads = sym (kept_length log after) ∙ ap (λ (l : List ℕ). length l) (undoes_all before log after leads)
 
 undo_well : (words : List ℕ) (c : Change) → c.address < length words → (honest (undo_tree words c)).cause ≡ None
-undo_well words c h = ap (λ (o : Option ℕ). (honest (undo_word words c c.address o)).cause) (slice_get-get_or words c.address 0 h)
+undo_well words c h = ap (λ (o : Option ℕ). (honest (undo_word words c.address c.was o)).cause) (slice_get-get_or words c.address 0 h)
 
 -- and none of its changes is out of range where it is undone without a strike
 pub stays_inside : (before : List ℕ) (log : List Change) (after : List ℕ) (n : ℕ) → LeadsTo before log after → n < length log

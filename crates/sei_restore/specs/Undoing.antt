@@ -14,14 +14,13 @@ pub record Undone : Type 0 where
   pub words : List ℕ
   pub cause : Option AbortCause
 
-abbrev pub undo_word : List ℕ → Change → ℕ → Option ℕ → Tree Undone
-undo_word words c a None = Done (record { words = words; cause = Some (Range a) })
-undo_word words c a (Some word) =
-    Ask (Value c.was) (λ was. Ask (Written was) (λ w. Done (record { words = slice_set words a w; cause = None })))
+abbrev pub undo_word : List ℕ → ℕ → ℕ → Option ℕ → Tree Undone
+undo_word words a was None = Done (record { words = words; cause = Some (Range a) })
+undo_word words a was (Some word) = Ask (Written was) (λ w. Done (record { words = slice_set words a w; cause = None }))
 
 -- the address is read, and the old word, which is written there
 abbrev pub undo_tree : List ℕ → Change → Tree Undone
-undo_tree words c = Ask (Value c.address) (λ a. undo_word words c a (slice_get words a))
+undo_tree words c = Ask (Value c.address) (λ a. Ask (Value c.was) (λ was. undo_word words a was (slice_get words a)))
 
 -- undoing the change at a place of a log; where there is none, nothing is asked
 abbrev pub undo_at : List ℕ → Option Change → Tree Undone

@@ -11,7 +11,7 @@ use sei_words::{Lent, NoBucket, Words};
 
 /// Undoes the change that stands `i` places before the last one of the log: the word at its
 /// address, in the words that are lent, becomes its old word again. The core is asked for the
-/// address, and where a word stands there, for the old word and for what is written.
+/// address and the old word, and where a word stands at the address, for what is written.
 ///
 /// It is `Range` exactly where no bucket is lent, or the address that the core gave is outside of
 /// it, and then nothing has changed.
@@ -59,10 +59,10 @@ fn undo_change<L: Lent, K: Core>(
     ensures lent { place_of (L.loan lent.new) ≡ place_of (L.loan lent.old) }
 {
     let a = core.value(change.address);
+    let was = core.value(change.was);
     match lent.get(a) {
         None => Err(AbortCause::Range { address: a }),
         Some(_) => {
-            let was = core.value(change.was);
             let word = core.written(was);
             lent.set(a, word);
             Ok(())

@@ -205,7 +205,7 @@ module _ (taken : List ℕ) (log : List Change) (distinct : IsDistinct log) wher
     restored_one : (honest (undo_at words (slice_get log k))).words ≡ slice_set words c.address c.was
     restored_one =
         ap (λ (o : Option Change). (honest (undo_at words o)).words) here
-        ∙ ap (λ (o : Option ℕ). (honest (undo_word words c c.address o)).words) (u.waits k c here (omega arith))
+        ∙ ap (λ (o : Option ℕ). (honest (undo_word words c.address c.was o)).words) (u.waits k c here (omega arith))
 
   -- the words behind n undone changes, from those at the end of an honest pass
   undone_so : (words : List ℕ) → Keeps taken log words → (n : ℕ) → n ≤ length log → Undoing taken log (restored log words n) (length log - n)
@@ -302,17 +302,17 @@ restore_moved e w (Some words) steps asked index i aimed =
 -- whatever is answered, some word is written, or the act aborts
 module _ (P : Acted → Type 0) (w : Walk) (words : List ℕ) (index : ℕ) (c : Change)
     (wrote : (a v : ℕ) → P (acted w (slice_set words a v) (Leads (at Restore (index + 1))))) (aborts : (cause : AbortCause) → P (acted w words (Aborts cause))) where
-  undo_found : (a : ℕ) (o : Option ℕ) → Always P (bound (undo_word words c a o) (undone_to w index))
-  undo_found a None = aborts _
-  undo_found a (Some word) = λ was v. wrote a v
+  undo_found : (a was : ℕ) (o : Option ℕ) → Always P (bound (undo_word words a was o) (undone_to w index))
+  undo_found a was None = aborts _
+  undo_found a was (Some word) = λ v. wrote a v
 
   undo_always : Always P (bound (undo_at words (Some c)) (undone_to w index))
-  undo_always = λ a. undo_found a (slice_get words a)
+  undo_always = λ a was. undo_found a was (slice_get words a)
 
 -- without a strike, the old word is written at the address
 module _ (P : Acted → Type 0) (w : Walk) (words : List ℕ) (index : ℕ) (c : Change)
     (wrote : P (acted w (slice_set words c.address c.was) (Leads (at Restore (index + 1))))) (aborts : (cause : AbortCause) → P (acted w words (Aborts cause))) where
-  honest_found : (o : Option ℕ) → P (honest (bound (undo_word words c c.address o) (undone_to w index)))
+  honest_found : (o : Option ℕ) → P (honest (bound (undo_word words c.address c.was o) (undone_to w index)))
   honest_found None = aborts _
   honest_found (Some word) = wrote
 
