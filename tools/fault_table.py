@@ -17,7 +17,8 @@ step, masks are 1, and jumps lead to the first step of each phase:
              nothing behind it
 
 Each cell has the count in front: `5 right, 1 take gate`. The number that belongs to a cause is left out.
-With `--steps` each step has a row, each fault a column, and a cause its number.
+With `--steps` each step has a row, which steps one behind the other that end alike share, each fault a
+column, and a cause its number.
 
 Of each replay the whole report is looked at: which messages are sent, that `took` counts them and `left`
 the bytes of the requests from the struck one on, the last line, and the exit status, which is 3 behind an
@@ -144,7 +145,15 @@ def phase_rows(phase, ends):
 
 
 def step_rows(phase, ends):
-    return [row([f"{phase} {index}", *(end[fault] or "WRONG" for fault in FAULTS)]) for index, end in ends.items()]
+    """A row for each step; steps one behind the other that end alike share one."""
+    rows = []
+    for index, end in ends.items():
+        cells = [end[fault] or "WRONG" for fault in FAULTS]
+        if rows and rows[-1][1] == cells:
+            rows[-1][0].append(index)
+        else:
+            rows.append(([index], cells))
+    return [row([f"{phase} {', '.join(map(str, steps))}", *cells]) for steps, cells in rows]
 
 
 def table(pool, load, by_steps):
