@@ -2,17 +2,14 @@
 use Rattle.std.proofs.Common.{◌≡◌, ℕ, zero, suc, ◌+◌, ◌≤◌, ◌<◌, Bool, true, false, List, [], ◌∷◌, ◌++◌, length, drop, refl, ap, sym, ◌∙◌, arith, Option, Some, None}
 use Rattle.std.specs.Prelude.{slice_get}
 use Rattle.std.specs.Io.KnownBytes.{append_known}
-use mir.Val.{bool_byte}
-use Rattle.std.proofs.lemmas.List.{append-nil, drop_all}
+use Rattle.std.proofs.lemmas.List.{append-nil}
 use Rattle.sei_outside.specs.Bytes.{WrotePart}
 use Rattle.mc_model.specs.Call.{Placed}
 use Rattle.sei_traverse.specs.declared.turned.State.{State}
 use Rattle.sei_traverse.specs.declared.turned.State.TheVariants.{Went, Finished, Refused, Aborted}
-use Rattle.sei_script.specs.ReportLines.{has_message}
 use Rattle.sei_main.specs.declared.world.state.Answered.{Answered}
 use Rattle.sei_main.specs.Answering.{Answering}
 use Rattle.sei_main.specs.Becomes.{IsResultOf}
-use Rattle.sei_main.specs.Own.{message_of}
 use Rattle.sei_main.specs.Events.{Event}
 use Rattle.sei_main.specs.Serving.{Asking, RequestResult, answer_in, answers_by, on_with, is_stopped}
 use Rattle.sei_main.specs.Report.{events_text}

@@ -1,13 +1,12 @@
 -- The lines of a script that are left, behind those that were run.
-use Rattle.std.proofs.Common.{◌≡◌, ℕ, ◌≤◌, List, ◌∷◌, length, refl, ◌∙◌, ap, arith}
+use Rattle.std.proofs.Common.{◌≡◌, ℕ, ◌≤◌, List, ◌∷◌, length, ◌∙◌, ap, arith}
 use Rattle.sei_script.specs.declared.line.ScriptLine.{ScriptLine}
 use Rattle.sei_script.specs.declared.line.ScriptLine.TheVariants as lines
 use Rattle.sei_script.specs.declared.line.Context.{Context}
 use Rattle.sei_script.specs.Limits.{most_connections}
-use Rattle.sei_script.specs.Context.{empty_context, context_after}
+use Rattle.sei_script.specs.Context.{context_after}
 use Rattle.sei_script.specs.Fit.{IsWellPlaced, AreFit}
 use Rattle.sei_main.specs.State.{Stepping, StateOf, led_by}
-use Rattle.sei_main.specs.Becomes.{IsKnown}
 use Rattle.sei_main.proofs.Rounds.{IsStepping, led_length}
 
 -- lines that may be run where so many connections are open

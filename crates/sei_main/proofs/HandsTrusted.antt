@@ -1,17 +1,14 @@
 -- The errand of each call for the hands of a valid geometry may be trusted.
-use Rattle.std.proofs.Common.{◌≡◌, ℕ, ◌^◌, ◌<◌, List, Option, Some, None}
-use Rattle.std.specs.Option.{option_map, option_and_then}
-use Rattle.sei_code.specs.Coded.{read_of}
+use Rattle.std.proofs.Common.{◌≡◌, ℕ, ◌^◌, ◌<◌, List, Option, Some}
 use Rattle.mc_model.specs.declared.geometry.Geometry.{Geometry}
-use Rattle.mc_model.specs.declared.call.Verb.TheVariants.{Fixed}
 use Rattle.mc_model.specs.Bucket.{Bucket}
-use Rattle.mc_model.specs.Call.{Placed, blank}
+use Rattle.mc_model.specs.Call.{Placed}
 use Rattle.mc_model.specs.Packed.{AreBytes}
 use Rattle.mc_model.specs.Server.{IsValid}
 use Rattle.sei_stmt.specs.Handling.{Parsed}
 use Rattle.sei_pass.specs.declared.given.Sealed.{Sealed}
-use Rattle.sei_pass.specs.Setting.{sealed_call, call_at}
-use Rattle.sei_hand.specs.Requests.{limits_of, call_in, parsed_of, parsed_call}
+use Rattle.sei_pass.specs.Setting.{sealed_call}
+use Rattle.sei_hand.specs.Requests.{parsed_of, parsed_call}
 use Rattle.sei_hand.specs.Served.{Stands, answer_of}
 use Rattle.sei_hand.proofs.SoundLaws.{sound_hands}
 use Rattle.sei_traverse.specs.Errand.{Errand, TellsTime}

@@ -1,5 +1,5 @@
 -- The next request of a connection, from what the reader says.
-use Rattle.std.proofs.Common.{◌≡◌, ℕ, Bool, false, true, List, take, refl, ap, sym, ◌∙◌, subst, Option, Some, None}
+use Rattle.std.proofs.Common.{◌≡◌, ℕ, Bool, false, List, take, refl, ap, sym, ◌∙◌, subst, Option, Some, None}
 use Rattle.std.specs.Prelude.{if◌then◌else◌}
 use Rattle.mc_text.specs.declared.limits.Limits.{Limits}
 use Rattle.mc_text.specs.declared.request.Request.{Request}

@@ -1,5 +1,5 @@
 -- A request is taken: the answers to its calls are written, and then that the connection closes.
-use Rattle.std.proofs.Common.{◌≡◌, ℕ, ◌<◌, ◌≤◌, Bool, false, List, ◌++◌, length, take, ap, sym, ◌∙◌, subst, arith, Option}
+use Rattle.std.proofs.Common.{◌≡◌, ℕ, ◌<◌, ◌≤◌, Bool, List, ◌++◌, length, take, ap, sym, ◌∙◌, subst, arith, Option}
 use Rattle.std.specs.Io.KnownBytes.{append_known}
 use Rattle.std.proofs.lemmas.List.{length-take}
 use Rattle.sei_outside.specs.Bytes.{WrotePart}

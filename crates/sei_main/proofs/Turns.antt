@@ -3,29 +3,24 @@ use Rattle.std.proofs.Common.{◌≡◌, ℕ, zero, suc, ◌+◌, ◌-◌, ◌^�
 use Rattle.std.specs.Prelude.{All, slice_get, slice_set}
 use Rattle.std.proofs.lemmas.List.Elements.{All-set}
 use Rattle.mc_model.specs.declared.geometry.Geometry.{Geometry}
-use Rattle.sei_fault.specs.declared.plan.Planned.{Planned}
-use Rattle.sei_fault.specs.declared.script.Stage.{Stage}
-use Rattle.sei_fault.specs.declared.script.Stage.TheVariants as stage
-use Rattle.sei_fault.specs.Script.{ScriptState, script_begin, script_answer, script_next, script_counts, fallen}
+use Rattle.sei_fault.specs.Script.{ScriptState, script_answer, script_next, script_counts}
 use Rattle.sei_fault.specs.Scripted.{function_core}
 use Rattle.sei_fault.specs.Tree.{Runs}
 use Rattle.sei_fault.proofs.Scripted.{scripted_runs}
 use Rattle.sei_words.specs.Loan.{Place, place_of, words_of, bucket_of}
 use Rattle.sei_words.specs.Words.{BucketWords}
-use Rattle.sei_pass.specs.declared.given.Sealed.{Sealed}
 use Rattle.sei_traverse.specs.declared.turned.State.{State}
 use Rattle.sei_traverse.specs.declared.turned.State.TheVariants.{Went, Finished, Refused, Aborted}
 use Rattle.sei_traverse.specs.declared.turned.Turned.{Turned}
 use Rattle.sei_traverse.specs.declared.turned.Want.{Want}
 use Rattle.sei_traverse.specs.declared.turned.Want.TheVariants.{Nothing, Take, Enter, Give, Send}
 use Rattle.sei_traverse.specs.declared.walk.Walk.{Walk}
-use Rattle.sei_traverse.specs.Bounds.{most_steps, StepsWithin, StepsAfter}
+use Rattle.sei_traverse.specs.Bounds.{StepsWithin, StepsAfter}
 use Rattle.sei_traverse.specs.Service.{given_of}
-use Rattle.sei_traverse.specs.State.{TraversalState, IsTraversal, begun_traversal, one_more, is_running}
+use Rattle.sei_traverse.specs.State.{TraversalState, IsTraversal, one_more, is_running}
 use Rattle.sei_traverse.specs.Step.{Turn, turn, turn_tree, TimedTwice}
-use Rattle.sei_traverse.proofs.StepsBound.{steps_bounded, begun_within}
 use Rattle.sei_main.specs.declared.world.service.Served.{Served}
-use Rattle.sei_main.specs.Course.{Course, loan_in, put_back, lent_behind, served_behind, is_ended, unserved, turned, met, course_on, course_if, course_from, course_begun}
+use Rattle.sei_main.specs.Course.{Course, loan_in, put_back, lent_behind, served_behind, is_ended, turned, met, course_on, course_if, course_from}
 use Rattle.sei_main.specs.Errands.{service_for}
 use Rattle.sei_main.specs.Tables.{IsOfGeometry}
 use Rattle.sei_main.specs.Turning.{IsStep, IsTurn}

@@ -1,8 +1,8 @@
 -- What the log of an honest run says: which words it leads to, what undoing it gives, and what else each step keeps.
-use Rattle.std.proofs.Common.{◌≡◌, ◌≢◌, ◌⊎◌, inl, inr, ℕ, zero, suc, ◌+◌, ◌-◌, ◌%◌, ◌^◌, ◌<◌, ◌≤◌, Bool, true, false, List, [], ◌∷◌, ◌++◌, length, get_or, Option, Some, None, ap, sym, ◌∙◌, arith, refl, subst, length-append}
+use Rattle.std.proofs.Common.{◌≡◌, ◌≢◌, ◌⊎◌, inl, inr, ℕ, zero, suc, ◌+◌, ◌-◌, ◌%◌, ◌^◌, ◌<◌, ◌≤◌, Bool, true, false, List, [], ◌∷◌, ◌++◌, length, Option, Some, None, ap, sym, ◌∙◌, arith, refl, subst, length-append}
 use Rattle.std.specs.Prelude.{if◌then◌else◌, ◌==◌, nat_lt, nat_le, slice_get, slice_set, All}
-use Rattle.std.proofs.lemmas.Bool.{ltb-true, eqb-true}
-use Rattle.std.proofs.lemmas.Option.{same_Some, slice_get_within, slice_get-get_or}
+use Rattle.std.proofs.lemmas.Bool.{ltb-true}
+use Rattle.std.proofs.lemmas.Option.{same_Some, slice_get_within}
 use Rattle.sei_code.specs.Codes.{message_code}
 use Rattle.sei_code.specs.Coded.{read_of}
 use Rattle.sei_code.specs.Kept.{Kept, has_room, emptied, pushed}
@@ -11,11 +11,11 @@ use Rattle.sei_log.specs.declared.log.Change.{Change}
 use Rattle.sei_fault.specs.declared.cause.AbortCause.{AbortCause}
 use Rattle.sei_fault.specs.declared.cause.AbortCause.TheVariants.{Code, LogFull, OutFull, Table, Budget}
 use Rattle.sei_fault.specs.declared.cause.AbortCause.TheVariants.{Bucket as NoBucket, Notes as NoNotes}
-use Rattle.sei_fault.specs.Tree.{Always, honest, questions}
+use Rattle.sei_fault.specs.Tree.{Always, honest}
 use Rattle.sei_fault.specs.Tree.Tree.{Ask}
 use Rattle.sei_fault.specs.Question.Question.{Value, Written}
 use Rattle.sei_fault.proofs.Runs.{always_honest}
-use Rattle.sei_restore.specs.Undoing.{LeadsTo, undo_word, undo_at, restored}
+use Rattle.sei_restore.specs.Undoing.{LeadsTo, undo_at, restored}
 use Rattle.sei_restore.proofs.UndoLaws.{stays_inside}
 use Rattle.sei_stmt.specs.declared.stmt.Stmt.{Stmt}
 use Rattle.sei_stmt.specs.declared.stmt.Stmt.TheVariants.{Const, Move, Add, Sub, Input, Load, Store, Emit, Jump, JumpEq, JumpLt, Now, Alloc, Parse, Render, Halt}
@@ -23,9 +23,8 @@ use Rattle.sei_stmt.specs.Machine.{Machine, Setting, Outcome, After, register, e
 use Rattle.sei_stmt.specs.Machine.Outcome.{Next, Halted, Bad}
 use Rattle.sei_stmt.specs.Handling.{parsed_words, refilled}
 use Rattle.sei_stmt.specs.Honest.{after, onward_from}
-use Rattle.sei_stmt.specs.Order.{finished, stage_after, stage_behind, stage_behind_found, stage_onward, only, is_parsed, is_open, timed, slotted, parsed, unparsed}
 use Rattle.sei_stmt.specs.Slots.{lowest_free}
-use Rattle.sei_stmt.specs.Sound.{RisesFrom, EndsWell}
+use Rattle.sei_stmt.specs.Sound.{RisesFrom}
 use Rattle.sei_stmt.specs.Statements.{read_word, store_word, store_changed, stored, noted_value, noted_now, now_tree, noted_slot_value, noted_slot, lowest_slot, parse_first, parse_bucket, parse_call, store_bytes, render_bytes, render_words, statement_tree, found_tree, step_tree}
 use Rattle.sei_pass.proofs.RoomLaws.{Keeps, keeps}
 

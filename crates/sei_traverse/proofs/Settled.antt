@@ -9,7 +9,7 @@ use Rattle.sei_traverse.specs.declared.turned.Want.{Want}
 use Rattle.sei_traverse.specs.declared.walk.Walk.{Walk}
 use Rattle.sei_traverse.specs.Comes.{at_time}
 use Rattle.sei_traverse.specs.Errand.{Errand, IsErrand, Whole, first_setting, first_start}
-use Rattle.sei_traverse.specs.Unstruck.{IsOf, FirstIsNew, SecondIsNew, FirstIsDone, SecondIsDone, before_enter, first_questions, FirstAt, InBoth, HasOutput, CleanIn, IsFinished}
+use Rattle.sei_traverse.specs.Unstruck.{IsOf, FirstIsNew, SecondIsNew, FirstIsDone, SecondIsDone, before_enter, FirstAt, InBoth, HasOutput, CleanIn, IsFinished}
 use Rattle.sei_traverse.specs.Walks.{log_room}
 use Rattle.sei_traverse.proofs.LogLaws.{room_kept}
 use Rattle.sei_traverse.proofs.TimeLaws.{ends_so}

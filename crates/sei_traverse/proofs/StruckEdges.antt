@@ -9,7 +9,7 @@ use Rattle.sei_fault.specs.declared.place.Phase.TheVariants.{Guard, Take, First,
 use Rattle.sei_fault.specs.declared.place.Place.{Place}
 use Rattle.sei_fault.specs.Phases.{phase_number}
 use Rattle.sei_fault.specs.StruckRuns.{StruckRun}
-use Rattle.sei_fault.specs.Tree.{Tree, honest, questions, Always}
+use Rattle.sei_fault.specs.Tree.{Tree, questions, Always}
 use Rattle.sei_fault.proofs.Runs.{always_honest}
 use Rattle.sei_fault.proofs.StruckRuns.{always_struck}
 use Rattle.sei_gate.specs.Closing.{risen}
@@ -27,7 +27,7 @@ use Rattle.sei_traverse.proofs.ClosesNext.ClosesNext.{Stays, Closes, Lacks}
 use Rattle.sei_traverse.specs.Phases.{reply_of, guard_tree, guard_call, take_tree, take_wanted, store_wanted, send_want, enter_tree, give_tree, send_tree, done_tree}
 use Rattle.sei_traverse.specs.Service.{Given}
 use Rattle.sei_traverse.specs.Step.{act_in}
-use Rattle.sei_traverse.specs.Struck.{IsAimed, IsHonestResult, StruckInTake, EnterStruck, SendStruck, On, StruckIn}
+use Rattle.sei_traverse.specs.Struck.{IsAimed, IsHonestResult, StruckInTake, EnterStruck, SendStruck, On}
 use Rattle.sei_traverse.specs.Trusted.{IsTrusted}
 use Rattle.sei_traverse.specs.Unstruck.{InGuard, InTake, InBoth, HasOutput, CleanIn}
 use Rattle.sei_traverse.proofs.CleanAnswers.{answers_whole}

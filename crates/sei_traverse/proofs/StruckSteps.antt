@@ -59,7 +59,6 @@ module _ (e : Errand) (laws : (phase : Phase) → (phase ≡ Guard → ⊥) → 
   honest_law p = elim (guard_or p) [ inl h ↦ subst (HonestLaw e) (sym h) honest_guard | inr n ↦ (laws p n).honest_on ]
 
   module _ (clock : ℕ) (u : Walk) (words : List ℕ) where
-
     abbrev its_act : Tree Acted
     its_act = act_tree (given_with e loan) clock u words
 

@@ -3,7 +3,7 @@ use Rattle.std.proofs.Common.{◌≡◌, ℕ, List, Option, Some, None, refl, sy
 use Rattle.std.specs.Option.{option_map}
 use Rattle.mc_model.specs.declared.geometry.Geometry.{Geometry}
 use Rattle.sei_fault.specs.declared.place.Act.{Act}
-use Rattle.sei_fault.specs.declared.place.Times.TheVariants.{Once, Skip, Twice}
+use Rattle.sei_fault.specs.declared.place.Times.TheVariants.{Skip}
 use Rattle.sei_fault.specs.Question.{Question, Answer}
 use Rattle.sei_fault.specs.Question.Question.{Often}
 use Rattle.sei_fault.specs.Tree.{Runs, bound}
