@@ -35,21 +35,11 @@ use Rattle.sei_main.proofs.CourseStep.{traversal, none_asked, NotesNow, kept, co
 use Rattle.sei_main.proofs.HandsTrusted.{IsSealedCall}
 use Rattle.sei_main.proofs.ScriptedRuns.{one_falls, unplanned, unplanned_stays}
 use Rattle.sei_main.proofs.TableLaws.{IsGood}
+use Rattle.sei_main.proofs.Turns.{ended_stays}
 use Rattle.sei_main.proofs.WalkKept.{FitsIn}
 
 one_more_is : (n : ℕ) → suc n < 2 ^ 64 → one_more n ≡ suc n
 one_more_is n small = omega (arith, small)
-
--- a traversal that has ended makes no course_step
-still_ended : (g : Geometry) (text : List ℕ) (now n : ℕ) (c : Course) → (c.served.state ≡ Went → ⊥) → course_from g text now n c ≡ c
-still_ended g text now zero c h = refl
-still_ended g text now (suc n) c h = ap (course_from g text now n) (still c.served.state h) ∙ still_ended g text now n c h
-  where
-    still : (state : State) → (state ≡ Went → ⊥) → course_if g text now state c ≡ c
-    still Went h = absurd (h refl)
-    still Finished h = refl
-    still Refused h = refl
-    still (Aborted abort) h = refl
 
 -- Without a plan.
 
@@ -157,8 +147,8 @@ module _ (g : Geometry) (text : List ℕ) (now : ℕ) (buckets : List BucketWord
       ended : (c.served.state ≡ Went → ⊥) → Behind (suc m) c steps
       ended not = record {
         made = steps;
-        on = subst (λ (d : Course). OnCourse d steps) (sym (still_ended g text now (suc m) c not)) h;
-        all = λ went. absurd (not (sym (ap (λ (d : Course). d.served.state) (still_ended g text now (suc m) c not)) ∙ went));
+        on = subst (λ (d : Course). OnCourse d steps) (sym (ended_stays g text now (suc m) c not)) h;
+        all = λ went. absurd (not (sym (ap (λ (d : Course). d.served.state) (ended_stays g text now (suc m) c not)) ∙ went));
       }
 
       goes : c.served.state ≡ Went → Behind (suc m) c steps

@@ -33,7 +33,7 @@ use Rattle.sei_traverse.specs.Facts.ClosesOnce.{Stays, Closes, Lacks}
 use Rattle.sei_traverse.specs.Phases.{reply_of, send_want}
 use Rattle.sei_traverse.specs.State.{TraversalState, one_more}
 use Rattle.sei_traverse.specs.Step.{Turn}
-use Rattle.sei_traverse.specs.Struck.{IsHonestResult, SendStruck}
+use Rattle.sei_traverse.specs.Struck.{IsHonestResult, HasCopyOfSome}
 use Rattle.sei_traverse.specs.Trusted.{IsTrusted}
 use Rattle.sei_traverse.proofs.FactsLaws.{facts_lent, facts_given}
 use Rattle.sei_main.specs.declared.world.service.Entered.{Entered}
@@ -45,7 +45,7 @@ use Rattle.sei_main.proofs.CourseStep.{traversal, none_asked, NotesNow, course_s
 use Rattle.sei_main.proofs.HandsTrusted.{IsSealedCall, hands_are_trusted}
 use Rattle.sei_main.proofs.TableLaws.{IsGood}
 
--- what is known behind a course_step stays known where the words that were taken are lent, and where they are given back
+-- what is known behind a step stays known where the words that were taken are lent, and where they are given back
 
 after_lent : (e : Errand) (t : TraversalState) (begin now : Counts) → IsTrusted e → t.walk.gate.done ≡ 2 → (state : State) → FactsAfter e t None begin now state → FactsAfter e t (Some e.taken) begin now state
 after_lent e t begin now trusted gate Went h = facts_lent e t begin now trusted gate h
@@ -159,7 +159,7 @@ module _ (g : Geometry) (text : List ℕ) (now : ℕ) (buckets : List BucketWord
     Entry : (k : ℕ) (w : BucketWords) → c.walk.gate.done ≡ 8 → k ≡ p.bucket → IsLent c steps k w → IsEntered c → Shape c steps
     Given : (k : ℕ) (w : BucketWords) → IsGiven c steps k w → Shape c steps
 
-  -- the course behind a course_step on this loan that turns out so and wants this
+  -- the course behind a step on this loan that turns out so and wants this
   abbrev behind : Course → Option BucketWords → Turn × ScriptState → Want → Course
   behind c loan x want = record {
     walk = x.0.walk;
@@ -458,7 +458,7 @@ module _ (g : Geometry) (text : List ℕ) (now : ℕ) (buckets : List BucketWord
               known = given_is.goes;
             })
 
-        sends : z.0.walk.gate.done ≡ 10 → reply_of z.0.walk ≡ reply_now → (asked : ℕ) → SendStruck (errand_at k) z.0.walk asked → (z.0.state ≡ Went → LendsWanted z.0.walk None) → Shape (further WantSend) (one_more steps)
+        sends : z.0.walk.gate.done ≡ 10 → reply_of z.0.walk ≡ reply_now → (asked : ℕ) → HasCopyOfSome (errand_at k) z.0.walk asked → (z.0.state ≡ Went → LendsWanted z.0.walk None) → Shape (further WantSend) (one_more steps)
         sends gate reply asked struck lends = Given k w (record {
           gate = omega (arith, gate);
           inside = v.inside;
@@ -516,7 +516,7 @@ module _ (g : Geometry) (text : List ℕ) (now : ℕ) (buckets : List BucketWord
       never_lacking Refused e h = h
       never_lacking (Aborted abort) e h = cc
 
-      -- one course_step more
+      -- one step more
       pub shape_on : Shape c steps → Shape (course_on g text now c) (one_more steps)
       shape_on (Before b) = before_on b
       shape_on (Lacking b) = absurd (never_lacking c.served.state went b.aborted)

@@ -1,4 +1,4 @@
--- One course_step of the traversal of a call under a planned fault: what is known of it is known behind it.
+-- One step of the traversal of a call under a planned fault: what is known of it is known behind it.
 use Rattle.std.proofs.Common.{◌≡◌, ◌⊎◌, inr, ℕ, List, [], ◌∷◌, length, true, Option, Some, None, refl, sym, ap, ◌∙◌, subst, arith}
 use Rattle.mc_model.specs.declared.geometry.Geometry.{Geometry}
 use Rattle.sei_code.specs.Coded.{sealed as seal}

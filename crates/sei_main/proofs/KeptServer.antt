@@ -23,6 +23,13 @@ pub record StandsAt (buckets : ℕ) (p : Placed) : Type 0 where
   pub placed : IsPlaced buckets p
   pub bucket : p.bucket < buckets
 
+-- each bucket of the empty server is empty
+pub empty_at : (n b : ℕ) → slice_index_or (replicate n empty_bucket) b empty_bucket ≡ empty_bucket
+empty_at zero zero = refl
+empty_at zero (suc b) = refl
+empty_at (suc n) zero = refl
+empty_at (suc n) (suc b) = empty_at n b
+
 pub start_server : (g : Geometry) → ServerKept g (empty_server g) []
 start_server g = record {
   room = refl;
@@ -30,12 +37,6 @@ start_server g = record {
   legal = tt;
   buckets = λ b h. empty_at g.buckets b;
 }
-  where
-    empty_at : (n b : ℕ) → slice_index_or (replicate n empty_bucket) b empty_bucket ≡ empty_bucket
-    empty_at zero zero = refl
-    empty_at zero (suc b) = refl
-    empty_at (suc n) zero = refl
-    empty_at (suc n) (suc b) = empty_at n b
 
 legal_push : (g : Geometry) (earlier entries : List Entry) (entry : Entry) → IsLegalBehind g earlier entries → IsLegalEntry g (earlier ++ entries) entry → IsLegalBehind g earlier (entries ++ entry ∷ [])
 legal_push g earlier [] entry h a = (subst (λ (es : List Entry). IsLegalEntry g es entry) (append-nil earlier) a, tt)

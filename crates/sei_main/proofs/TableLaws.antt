@@ -14,6 +14,7 @@ use Rattle.sei_words.specs.Words.{BucketWords, fresh_words}
 use Rattle.sei_words.proofs.FreshLaws.{fresh_stands}
 use Rattle.sei_hand.specs.ReadCall.{IsReadCall, HasBytes}
 use Rattle.sei_hand.specs.Served.{Stands}
+use Rattle.sei_main.proofs.KeptServer.{empty_at}
 use Rattle.sei_main.specs.Tables.{Tables, IsOfGeometry, fresh_tables, bucket_words, IsBucketImage, AreServer, AreServerOf}
 
 -- a call that is asked in bytes
@@ -57,9 +58,3 @@ fresh_are_server g valid = record {
         (record { bucket = refl; geometry = refl; stands = subst (Stands g (fresh_words g b).words) (sym empty) (record { stands = fresh_stands g; bounded = record { moment = omega arith; counter = omega arith; items = λ i d h. absurd (omega (arith, h)) } }) });
   };
 }
-  where
-    empty_at : (n b : ℕ) → slice_index_or (replicate n empty_bucket) b empty_bucket ≡ empty_bucket
-    empty_at zero zero = refl
-    empty_at zero (suc b) = refl
-    empty_at (suc n) zero = refl
-    empty_at (suc n) (suc b) = empty_at n b

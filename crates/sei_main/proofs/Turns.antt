@@ -125,19 +125,19 @@ abbrev pub course_at : TraversalState → List BucketWords → Option ℕ → Sc
 course_at t buckets lent core served = record { walk = t.walk; buckets = buckets; lent = lent; core = core; served = served }
 
 -- behind k of so many steps it goes on, and what is left of its steps leads where all of them lead from its begin
-pub record Underway (g : Geometry) (text : List ℕ) (now limit : ℕ) (begun_traversal : Course) (k : ℕ) (t : TraversalState) (buckets : List BucketWords) (lent : Option ℕ) (core : ScriptState) (served : Served) : Type 0 where
-  pub rest : course_from g text now (limit - k) (course_at t buckets lent core served) ≡ course_from g text now limit begun_traversal
+pub record Underway (g : Geometry) (text : List ℕ) (now limit : ℕ) (start : Course) (k : ℕ) (t : TraversalState) (buckets : List BucketWords) (lent : Option ℕ) (core : ScriptState) (served : Served) : Type 0 where
+  pub rest : course_from g text now (limit - k) (course_at t buckets lent core served) ≡ course_from g text now limit start
   pub going : served.state ≡ Went
   pub running : t.running ≡ true
   pub geometry : t.geometry ≡ g
-  pub sealed : t.walk.sealed ≡ begun_traversal.walk.sealed
+  pub sealed : t.walk.sealed ≡ start.walk.sealed
   pub laid_out : All (IsOfGeometry g) buckets
   pub steps : t.steps ≡ k
   pub rooms : 0 < k → IsTraversal t
-  pub within : StepsWithin t (script_counts begun_traversal.core) (script_counts core)
+  pub within : StepsWithin t (script_counts start.core) (script_counts core)
 
-module _ (g : Geometry) (text : List ℕ) (now limit : ℕ) (begun_traversal : Course) (k : ℕ) (old new : TraversalState) (before after : List BucketWords) (lent : Option ℕ) (core later : ScriptState) (served : Served) (t : Turned)
-    (u : Underway g text now limit begun_traversal k old before lent core served) (st : IsTurn g text now lent old new before after core later t) (lt : k < limit) where
+module _ (g : Geometry) (text : List ℕ) (now limit : ℕ) (start : Course) (k : ℕ) (old new : TraversalState) (before after : List BucketWords) (lent : Option ℕ) (core later : ScriptState) (served : Served) (t : Turned)
+    (u : Underway g text now limit start k old before lent core served) (st : IsTurn g text now lent old new before after core later t) (lt : k < limit) where
   abbrev next : Course
   next = course_at new after (lent_behind t.want lent) later (served_behind t.want new.walk served t.state)
 
@@ -149,7 +149,7 @@ module _ (g : Geometry) (text : List ℕ) (now limit : ℕ) (begun_traversal : C
       ∙ ap (λ (b : List BucketWords). record { walk = new.walk; buckets = b; lent = lent_behind new.walk.want lent; core = later; served = served_behind new.walk.want new.walk served t.state }) (sym st.buckets)
       ∙ ap (λ (x : Want). course_at new after (lent_behind x lent) later (served_behind x new.walk served t.state)) (sym st.want)
 
-  pub onward : course_from g text now (limit - (k + 1)) next ≡ course_from g text now limit begun_traversal
+  pub onward : course_from g text now (limit - (k + 1)) next ≡ course_from g text now limit start
   onward =
       let one : limit - k ≡ suc (limit - (k + 1)) = omega (arith, lt) in
       let c : Course = course_at old before lent core served in
@@ -157,11 +157,11 @@ module _ (g : Geometry) (text : List ℕ) (now limit : ℕ) (begun_traversal : C
       ∙ sym (ap (λ (n : ℕ). course_from g text now n c) one) ∙ u.rest
 
   -- behind a step that does not go on
-  pub ended : (t.state ≡ Went → ⊥) → (state : State) → (served_behind t.want new.walk served t.state).state ≡ state → state ≡ t.state → next ≡ course_from g text now limit begun_traversal
+  pub ended : (t.state ≡ Went → ⊥) → (state : State) → (served_behind t.want new.walk served t.state).state ≡ state → state ≡ t.state → next ≡ course_from g text now limit start
   ended h state e f = sym (ended_stays g text now (limit - (k + 1)) next (λ w. h (sym (e ∙ f) ∙ w))) ∙ onward
 
   pub goes : k + 1 < 2 ^ 64 → t.state ≡ Went → (new_served : Served) → new_served ≡ served_behind t.want new.walk served t.state → new_served.state ≡ t.state → (new_lent : Option ℕ) → new_lent ≡ lent_behind t.want lent →
-      All (IsOfGeometry g) after → Underway g text now limit begun_traversal (k + 1) new after new_lent later new_served
+      All (IsOfGeometry g) after → Underway g text now limit start (k + 1) new after new_lent later new_served
   goes small went new_served s same new_lent l all = record {
     rest = ap (λ (x : Served). course_from g text now (limit - (k + 1)) (course_at new after new_lent later x)) s
         ∙ ap (λ (x : Option ℕ). course_from g text now (limit - (k + 1)) (course_at new after x later (served_behind t.want new.walk served t.state))) l
@@ -173,7 +173,7 @@ module _ (g : Geometry) (text : List ℕ) (now limit : ℕ) (begun_traversal : C
     laid_out = all;
     steps = st.steps ∙ ap one_more u.steps ∙ omega (arith, small);
     rooms = λ h. st.rooms;
-    within = subst (λ (s : State). StepsAfter new (script_counts begun_traversal.core) (script_counts later) s) went (st.within (script_counts begun_traversal.core) u.within);
+    within = subst (λ (s : State). StepsAfter new (script_counts start.core) (script_counts later) s) went (st.within (script_counts start.core) u.within);
   }
 
 pub not_ended : (state : State) → is_ended state ≡ true → state ≡ Went → ⊥

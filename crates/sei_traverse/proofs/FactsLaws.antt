@@ -18,6 +18,7 @@ use Rattle.sei_traverse.specs.Struck.{NotesSmall, FirstStruck, StruckIn}
 use Rattle.sei_traverse.specs.Struck.FirstStruck.{Restorable}
 use Rattle.sei_traverse.specs.Trusted.{IsTrusted}
 use Rattle.sei_traverse.specs.Unstruck.{FirstIsNew, CleanIn}
+use Rattle.sei_traverse.proofs.WayLaws.{way_begins}
 use Rattle.sei_traverse.proofs.EdgeActs.{lends}
 use Rattle.sei_traverse.proofs.StepEnds.{same_phase, clean_gate}
 
@@ -25,21 +26,7 @@ pub facts_begin : (e : Errand) (c : Counts) → Facts e (begun_traversal e.geome
 facts_begin e c = record {
   later = omega arith;
   unstruck = λ u. record {
-    clean = record {
-      geometry = refl;
-      asked = 0;
-      clean = record {
-        in_phase = record {
-          is = record { sealed = refl; gate = refl };
-          index = refl;
-          first = record { first = refl; first_log = refl; notes = refl };
-          second = record { second = refl; second_log = refl };
-          number = omega arith;
-          questions = refl;
-        };
-      };
-      counted = λ m. omega arith;
-    };
+    clean = (way_begins e c).clean u;
     knows = tt;
   };
   struck = λ s. absurd (omega (arith, s));

@@ -11,7 +11,7 @@ use Rattle.sei_traverse.specs.declared.walk.Walk.{Walk}
 use Rattle.sei_traverse.specs.Errand.{Errand, Whole}
 use Rattle.sei_traverse.specs.Facts.{Knows, Wanted, closing_want, IsLikeWalk}
 use Rattle.sei_traverse.specs.Phases.{reply_of, send_want}
-use Rattle.sei_traverse.specs.Struck.{IsAimed, IsHonestResult, SendStruck, On}
+use Rattle.sei_traverse.specs.Struck.{IsAimed, IsHonestResult, HasCopyOfSome, On}
 use Rattle.sei_traverse.specs.Trusted.{IsTrusted}
 use Rattle.sei_traverse.specs.Unstruck.{SecondIsDone, HasOutput, InBoth, CleanIn, first_questions}
 use Rattle.sei_traverse.proofs.ClosesNext.{ClosesNext}
@@ -33,7 +33,7 @@ module _ (e : Errand) (trusted : IsTrusted e) (w : Walk) (time made : ℕ) (end 
   answers_half whole second notes =
       answers_whole e time made end whole trusted w end.words (first_questions e time made) aimed notes refl (ap (λ (p : PassState). p.bytes.items) second.second) (omega arith)
 
-  pub sends_half : (asked : ℕ) → HasOutput e w time made end asked → SendStruck e w (first_questions e time made)
+  pub sends_half : (asked : ℕ) → HasOutput e w time made end asked → HasCopyOfSome e w (first_questions e time made)
   sends_half asked i = record {
     words = end.words;
     answered = record { answers = answers_half i.whole i.second i.notes; wire = i.copy ∙ sym (ap (λ (p : PassState). p.bytes.items) i.second.second) };

@@ -9,9 +9,9 @@ use Rattle.sei_traverse.specs.declared.turned.State.{State}
 use Rattle.sei_traverse.specs.declared.turned.State.TheVariants.{Went}
 use Rattle.sei_traverse.specs.declared.walk.Walk.{Walk}
 use Rattle.sei_traverse.specs.Errand.{Errand}
-use Rattle.sei_traverse.specs.Facts.{LendsBucketOf, LendsIn, IsRight, LendsWanted, LendsOn, WantsBucket, Wanted, closing_want, ClosesOnce, IsAborted}
+use Rattle.sei_traverse.specs.Facts.{IsRight, LendsWanted, LendsOn, WantsBucket, Wanted, closing_want, ClosesOnce, IsAborted}
 use Rattle.sei_traverse.specs.Facts.ClosesOnce.{Stays, Closes, Lacks}
-use Rattle.sei_traverse.specs.OnWay.{lent_words, LendsBucket}
+use Rattle.sei_traverse.specs.OnWay.{lent_words, LendsBucket, LendsBucketOf, LendsIn}
 use Rattle.sei_traverse.specs.Phases.{reply_of, send_want}
 use Rattle.sei_traverse.specs.Struck.{IsHonestResult, On}
 use Rattle.sei_traverse.proofs.ActKeeps.{IsNoStore}

@@ -10,7 +10,7 @@ use Rattle.sei_traverse.specs.declared.turned.Want.TheVariants.{Nothing, Take as
 use Rattle.sei_traverse.specs.declared.walk.Walk.{Walk}
 use Rattle.sei_traverse.specs.Errand.{Errand}
 use Rattle.sei_traverse.specs.Facts.{Wanted}
-use Rattle.sei_traverse.specs.Struck.{IsAimed, IsHonestResult, FirstStruck, FirstStands, WasHonest, WasMisread, RestoreStruck, SecondStruck, CompareStruck, WordsStruck, VerifyStruck, EnterStruck, SendStruck, On, StruckIn}
+use Rattle.sei_traverse.specs.Struck.{IsAimed, IsHonestResult, FirstStruck, FirstStands, WasHonest, WasMisread, RestoreStruck, SecondStruck, CompareStruck, WordsStruck, VerifyStruck, HasCopy, HasCopyOfSome, On, StruckIn}
 use Rattle.sei_traverse.specs.Struck.FirstStruck.{Restorable, Misread}
 use Rattle.sei_traverse.specs.Struck.RestoreStruck.{Restorable as RestorableR, Misread as MisreadR, Damaged as DamagedR}
 use Rattle.sei_traverse.specs.Struck.SecondStruck.{Good, Misread as MisreadS, Damaged as DamagedS, Struck as StruckS}
@@ -44,13 +44,13 @@ module _ (e : Errand) (w v : Walk) (l : IsLike w v) where
     questions = a.questions;
   }
 
-  pub enter_like : (words : List ℕ) (asked : ℕ) → EnterStruck e w words asked → EnterStruck e v words asked
+  pub enter_like : (words : List ℕ) (asked : ℕ) → HasCopy e w words asked → HasCopy e v words asked
   enter_like words asked a = record {
     answers = answers_like words asked a.answers;
     wire = ap (λ b. b.items) l.wire ∙ a.wire ∙ sym (ap (λ (p : PassState). p.bytes.items) l.second);
   }
 
-  pub send_like : (asked : ℕ) → SendStruck e w asked → SendStruck e v asked
+  pub send_like : (asked : ℕ) → HasCopyOfSome e w asked → HasCopyOfSome e v asked
   send_like asked a = record { words = a.words; answered = enter_like a.words asked a.answered }
 
   pub wanted_like : (lent : Option (List ℕ)) (asked : ℕ) (want : Want) → Wanted e w lent asked want → Wanted e v lent asked want
@@ -152,7 +152,7 @@ module _ (e : Errand) (w : Walk) (n : Want) (asked : ℕ) where
   struck_settles lent Second h = on_map lent (λ words. SecondStruck e w words _ asked) (λ words. SecondStruck e (wanting w n) words _ asked) (λ words. second_struck words _) h
   struck_settles lent Compare h = on_map lent (λ words. CompareStruck e w words asked) (λ words. CompareStruck e (wanting w n) words asked) compare_struck h
   struck_settles lent Verify h = on_map lent (λ words. VerifyStruck e w words asked) (λ words. VerifyStruck e (wanting w n) words asked) verify_struck h
-  struck_settles lent Enter h = on_map lent (λ words. EnterStruck e w words asked) (λ words. EnterStruck e (wanting w n) words asked) (λ words. enter_like e w (wanting w n) alike words asked) h
-  struck_settles lent Give h = on_map lent (λ words. EnterStruck e w words asked) (λ words. EnterStruck e (wanting w n) words asked) (λ words. enter_like e w (wanting w n) alike words asked) h
+  struck_settles lent Enter h = on_map lent (λ words. HasCopy e w words asked) (λ words. HasCopy e (wanting w n) words asked) (λ words. enter_like e w (wanting w n) alike words asked) h
+  struck_settles lent Give h = on_map lent (λ words. HasCopy e w words asked) (λ words. HasCopy e (wanting w n) words asked) (λ words. enter_like e w (wanting w n) alike words asked) h
   struck_settles lent Send h = send_like e w (wanting w n) alike asked h
   struck_settles lent Done h = send_like e w (wanting w n) alike asked h

@@ -20,9 +20,8 @@ use Rattle.sei_traverse.specs.declared.turned.Want.TheVariants.{Nothing}
 use Rattle.sei_traverse.specs.declared.walk.Walk.{Walk}
 use Rattle.sei_traverse.specs.Acts.{at}
 use Rattle.sei_traverse.specs.Errand.{Errand, IsErrand, TellsTime, Follows, given_in}
-use Rattle.sei_traverse.specs.OnWay.{lent_words, Lends, TellsAs, IsClean, OnWay, IsCleanEnd, OnWayAfter, StaysOnWay, Fails, IsUnfit}
-use Rattle.sei_traverse.specs.OnWay.Fails.{Altered, NoCall}
-use Rattle.sei_traverse.specs.Service.{Service, Given, given_of, has_sealed_call}
+use Rattle.sei_traverse.specs.OnWay.{lent_words, Lends, TellsAs, IsClean, OnWay, IsCleanEnd, OnWayAfter, StaysOnWay, IsUnfit}
+use Rattle.sei_traverse.specs.Service.{Service, Given, given_of, has_sealed_call, FailsGuard}
 use Rattle.sei_traverse.specs.State.{TraversalState, one_more}
 use Rattle.sei_traverse.specs.Step.{Turn, turn, turn_tree, TimedTwice}
 use Rattle.sei_traverse.specs.Unstruck.{want_in, NextIn, CleanIn, IsFinished}
@@ -259,15 +258,11 @@ stays_on_way_given gives counts law told e begin old new loan left state s t ser
     same geometry steps ie tells lends way
 
 -- in Guard an input that fails is refused
-failing : (g : Given) (w : Walk) → Fails g w → (is_intact w.sealed g.input ≡ false) ⊎ (has_sealed_call g w.sealed ≡ false)
-failing g w (Altered e) = inl e
-failing g w (NoCall e) = inr e
-
-refuses_there : (g : Given) (now later : ℕ) (w : Walk) (words : List ℕ) → Fails g w →
+refuses_there : (g : Given) (now later : ℕ) (w : Walk) (words : List ℕ) → FailsGuard g w.sealed →
     honest (turn_tree g now later (record w { place = at Guard 0 }) words) ≡ turn (unwanting (record w { place = at Guard 0 })) words Refused
 refuses_there g now later w words f =
     let v : Walk = record w { place = at Guard 0 } in
-    let r = refused g (unwanting v) words refl (failing g w f) in
+    let r = refused g (unwanting v) words refl f in
     (refuses_turn g now later v words Plain (unwanting v) words r.0 r.1).0
 
 pub refused_run : {S : Type 0} (gives : S → (q : Question) → Answer q → S → Type 0) (counts : S → Counts) →
@@ -282,8 +277,4 @@ refused_run gives counts law told service input geometry lent w v words left sta
     let run = counted_runs gives counts law (turn_tree g turned.now turned.later w words) s t x turned.runs in
     let run0 = subst (λ (p : Place). Runs any_core (turn_tree g turned.now turned.later (record w { place = p }) words) (counts s) (counts t) x) unfit.place run in
     let end = (clean_run g turned.now turned.later w0 words (counts s) (counts t) x run0 same).0 in
-    ap (λ (y : Turn). y.state) (end ∙ refuses_there g turned.now turned.later w words (fails_too unfit.fails))
-  where
-    fails_too : Fails (given_of service input geometry None) w → Fails (given_of service input geometry lent) w
-    fails_too (Altered e) = Altered e
-    fails_too (NoCall e) = NoCall e
+    ap (λ (y : Turn). y.state) (end ∙ refuses_there g turned.now turned.later w words unfit.fails)

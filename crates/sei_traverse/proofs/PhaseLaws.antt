@@ -18,7 +18,7 @@ use Rattle.sei_traverse.specs.Facts.{Knows, Wanted}
 use Rattle.sei_traverse.proofs.ClosesNext.{ClosesNext}
 use Rattle.sei_traverse.specs.Service.{Given, given_of}
 use Rattle.sei_traverse.specs.Step.{act_in}
-use Rattle.sei_traverse.specs.Struck.{SendStruck, StruckIn}
+use Rattle.sei_traverse.specs.Struck.{HasCopyOfSome, StruckIn}
 use Rattle.sei_traverse.specs.Unstruck.{CleanIn}
 
 -- what is lent in a phase, of the words behind an act there
@@ -40,7 +40,7 @@ given_for e phase wanted = given_of e.service e.input e.geometry (Some wanted)
 -- the act leads to a place where the gate is right, and the case of its phase stands; or to the end
 pub data LeadsWell (e : Errand) (phase : Phase) (w : Walk) (words : List ℕ) (asked : ℕ) (to : Place) : Type 0 where
   Onward : w.gate.done ≡ phase_number to.phase → StruckIn e (record w { place = to }) (lent_in phase words) asked to.phase → LeadsWell e phase w words asked to
-  ToEnd : phase ≡ Done → to ≡ at Done 1 → w.gate.done ≡ 11 → SendStruck e w asked → LeadsWell e phase w words asked to
+  ToEnd : phase ≡ Done → to ≡ at Done 1 → w.gate.done ≡ 11 → HasCopyOfSome e w asked → LeadsWell e phase w words asked to
 
 abbrev pub EndsRight : Errand → Phase → Walk → List ℕ → ℕ → Ending → Type 0
 EndsRight e phase w words asked (Leads to) = LeadsWell e phase w words asked to

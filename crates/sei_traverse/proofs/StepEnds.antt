@@ -24,7 +24,7 @@ use Rattle.sei_traverse.specs.Facts.StruckCase.{Right, Lost}
 use Rattle.sei_traverse.proofs.ClosesNext.ClosesNext.{Stays, Closes, Lacks}
 use Rattle.sei_traverse.specs.Phases.{send_want}
 use Rattle.sei_traverse.specs.Step.{Turn, turn, aborted, is_end, arrival, goes_from, goes_on}
-use Rattle.sei_traverse.specs.Struck.{IsAimed, SendStruck, StruckIn}
+use Rattle.sei_traverse.specs.Struck.{IsAimed, HasCopyOfSome, StruckIn}
 use Rattle.sei_traverse.specs.Trusted.{PassesGuard}
 use Rattle.sei_traverse.specs.Unstruck.{CleanIn}
 use Rattle.sei_traverse.proofs.ActKeeps.{IsLike}
@@ -116,7 +116,7 @@ pub record EndsWell (e : Errand) (Stands : ℕ → Walk → Option (List ℕ) �
 -- where a traversal stands that was struck
 abbrev pub StruckStands : Errand → ℕ → Walk → Option (List ℕ) → State → Type 0
 StruckStands e number w lent Went = StruckCase e w lent number
-StruckStands e number w lent Finished = (w.gate.done ≡ 11) × SendStruck e w number
+StruckStands e number w lent Finished = (w.gate.done ≡ 11) × HasCopyOfSome e w number
 StruckStands e number w lent Refused = w.gate.done ≤ 1
 StruckStands e number w lent (Aborted abort) = ⊤
 
@@ -178,7 +178,7 @@ comes_well e Stands after before asked number wanting w words p state most wanti
 
 -- at a place that is the end, the step finishes where all phases are closed, or aborts; at each other one it goes on
 pub arrives_well : (e : Errand) (lent : Option (List ℕ)) (asked : ℕ) (w : Walk) (phase : Phase) (p : Place) (done : ℕ) → (is_end p ≡ false → StruckCase e w lent asked) →
-    (is_end p ≡ true → done ≡ 11 → (w.gate.done ≡ 11) × SendStruck e w asked) → StruckStands e asked w lent (arrival phase p done)
+    (is_end p ≡ true → done ≡ 11 → (w.gate.done ≡ 11) × HasCopyOfSome e w asked) → StruckStands e asked w lent (arrival phase p done)
 arrives_well e lent asked w phase p done went finished = by_end (is_end p) refl
   where
     by_done : is_end p ≡ true → (b : Bool) → (done == 11) ≡ b → StruckStands e asked w lent (if b then Finished else aborted phase (Gate done))
@@ -308,7 +308,7 @@ moves_well e w lent steps asked p behind moved clean knows phase to =
     by_phase (inr n) = Lost (λ same. n (sym same ∙ gate)) (λ guard. knows_fit e w p behind knows)
 
 -- behind the last phase it is lost at each place but the end
-pub moves_at_end : (e : Errand) (w : Walk) (lent : Option (List ℕ)) (asked : ℕ) → PassesGuard e → w.gate.done ≡ 11 → SendStruck e w asked →
+pub moves_at_end : (e : Errand) (w : Walk) (lent : Option (List ℕ)) (asked : ℕ) → PassesGuard e → w.gate.done ≡ 11 → HasCopyOfSome e w asked →
     (phase : Phase) (to : Place) → StruckStands e asked (record w { place = to }) lent (arrival phase to w.gate.done)
 moves_at_end e w lent asked fit gate sends phase to =
     arrives_well e lent asked (record w { place = to }) phase to w.gate.done

@@ -26,14 +26,14 @@ use Rattle.sei_traverse.specs.declared.walk.Ending.TheVariants.{Leads, Refuses, 
 use Rattle.sei_traverse.specs.declared.walk.Walk.{Walk}
 use Rattle.sei_traverse.specs.Acts.{Acted, acted, ends, at, closes}
 use Rattle.sei_traverse.specs.Errand.{Errand, IsErrand, Follows, given_in}
-use Rattle.sei_traverse.specs.Facts.{Knows, LendsBucketOf, LendsIn, Wanted, closing_want, IsUnfitInput}
+use Rattle.sei_traverse.specs.Facts.{Knows, Wanted, closing_want, IsUnfitInput}
 use Rattle.sei_traverse.proofs.ClosesNext.{ClosesNext}
 use Rattle.sei_traverse.proofs.ClosesNext.ClosesNext.{Stays, Closes}
-use Rattle.sei_traverse.specs.OnWay.{lent_words, LendsBucket, Lends}
+use Rattle.sei_traverse.specs.OnWay.{lent_words, LendsBucket, Lends, LendsBucketOf, LendsIn}
 use Rattle.sei_traverse.specs.Phases.{reply_of, send_want, done_tree}
 use Rattle.sei_traverse.specs.Service.{Given, given_of, has_sealed_call}
 use Rattle.sei_traverse.specs.Step.{act_in, site_in}
-use Rattle.sei_traverse.specs.Struck.{IsAimed, IsHonestResult, On, SendStruck, StruckIn}
+use Rattle.sei_traverse.specs.Struck.{IsAimed, IsHonestResult, On, HasCopyOfSome, StruckIn}
 use Rattle.sei_traverse.specs.Trusted.{PassesGuard, IsTrusted}
 use Rattle.sei_traverse.specs.Unstruck.{take_want, want_in, NextIn, IsLent, WantedAt, InTake, InEnter, InGive, InSend, InBoth, HasOutput, CleanIn, IsFinished}
 use Rattle.sei_traverse.proofs.ActKeeps.{IsNoStore, Keeps, HonestlyKeeps, keeps, honestly_kept, OnlyCloses, closes_only, take_only}
@@ -74,7 +74,7 @@ abbrev pub BothLaw : Errand → Type 0
 BothLaw e = (w : Walk) (words : List ℕ) (time made : ℕ) (end : Machine) (asked : ℕ) → IsAimed e w → InBoth e w (Some words) time made end asked → IsHonestResult e w words asked
 
 abbrev pub AnsweredLaw : Errand → Type 0
-AnsweredLaw e = (w : Walk) (time made : ℕ) (end : Machine) (asked : ℕ) → IsAimed e w → HasOutput e w time made end asked → SendStruck e w asked
+AnsweredLaw e = (w : Walk) (time made : ℕ) (end : Machine) (asked : ℕ) → IsAimed e w → HasOutput e w time made end asked → HasCopyOfSome e w asked
 
 -- What is lent.
 
@@ -219,7 +219,7 @@ pub data CleanAct (e : Errand) (now : ℕ) (w : Walk) (loan : Option BucketWords
 -- where a traversal stands that nothing struck
 abbrev pub CleanStands : Errand → ℕ → ℕ → Walk → Option (List ℕ) → State → Type 0
 CleanStands e steps number w lent Went = CleanIn e w lent steps number w.place.phase × Knows e w w.place.phase
-CleanStands e steps number w lent AtEnd = (w.gate.done ≡ 11) × SendStruck e w number × IsFinished e w steps number
+CleanStands e steps number w lent AtEnd = (w.gate.done ≡ 11) × HasCopyOfSome e w number × IsFinished e w steps number
 CleanStands e steps number w lent Refused = (w.gate.done ≤ 1) × IsUnfitInput e
 CleanStands e steps number w lent (Aborted abort) = ⊥
 
@@ -505,7 +505,7 @@ module _ (e : Errand) (answered : AnsweredLaw e) (now : ℕ) (loan : Option Buck
   end_wanted = (subst (Keeps w) f.acts (always_honest (Keeps w) (act_in (given_with e loan) now p w.place.index w (words_of loan))
       (keeps (given_with e loan) now w (words_of loan) p w.place.index (subst (λ (q : Phase). IsNoStore q w.place.index) (sym last) tt)))).wanted
 
-  pub end_sends : SendStruck e (record f.walk { place = at Done 1 }) asked
+  pub end_sends : HasCopyOfSome e (record f.walk { place = at Done 1 }) asked
   end_sends =
       let aimed : IsAimed e w = subst (λ (q : Phase). Knows e w q) last knows in
       answered (record f.walk { place = at Done 1 }) f.finished.time f.finished.made f.finished.end asked (record { fit = aimed.fit; wanted = end_wanted ∙ aimed.wanted }) f.finished.answered

@@ -27,7 +27,7 @@ use Rattle.sei_traverse.proofs.ClosesNext.ClosesNext.{Stays, Closes, Lacks}
 use Rattle.sei_traverse.specs.Phases.{reply_of, guard_tree, guard_call, take_tree, take_wanted, store_wanted, send_want, enter_tree, give_tree, send_tree, done_tree}
 use Rattle.sei_traverse.specs.Service.{Given}
 use Rattle.sei_traverse.specs.Step.{act_in}
-use Rattle.sei_traverse.specs.Struck.{IsAimed, IsHonestResult, StruckInTake, EnterStruck, SendStruck, On}
+use Rattle.sei_traverse.specs.Struck.{IsAimed, IsHonestResult, StruckInTake, HasCopy, HasCopyOfSome, On}
 use Rattle.sei_traverse.specs.Trusted.{IsTrusted}
 use Rattle.sei_traverse.specs.Unstruck.{InGuard, InTake, InBoth, HasOutput, CleanIn}
 use Rattle.sei_traverse.proofs.CleanAnswers.{answers_whole}
@@ -53,13 +53,13 @@ answers_at e w v words asked more wanted notes second le a = record {
 }
 
 pub enter_at : (e : Errand) (w v : Walk) (words : List ℕ) (asked more : ℕ) → v.wanted ≡ w.wanted → v.notes ≡ w.notes → v.second ≡ w.second → v.wire ≡ w.wire → asked ≤ more →
-    EnterStruck e w words asked → EnterStruck e v words more
+    HasCopy e w words asked → HasCopy e v words more
 enter_at e w v words asked more wanted notes second wire le s = record {
   answers = answers_at e w v words asked more wanted notes second le s.answers;
   wire = ap (λ k. k.items) wire ∙ s.wire ∙ sym (ap (λ (p : PassState). p.bytes.items) second);
 }
 
-send_at : (e : Errand) (w v : Walk) (asked more : ℕ) → v.wanted ≡ w.wanted → v.notes ≡ w.notes → v.second ≡ w.second → v.wire ≡ w.wire → asked ≤ more → SendStruck e w asked → SendStruck e v more
+send_at : (e : Errand) (w v : Walk) (asked more : ℕ) → v.wanted ≡ w.wanted → v.notes ≡ w.notes → v.second ≡ w.second → v.wire ≡ w.wire → asked ≤ more → HasCopyOfSome e w asked → HasCopyOfSome e v more
 send_at e w v asked more wanted notes second wire le s = record { words = s.words; answered = enter_at e w v s.words asked more wanted notes second wire le s.answered }
 
 pub on_map : (P Q : List ℕ → Type 0) (lent : Option (List ℕ)) → ((words : List ℕ) → P words → Q words) → On lent P → On lent Q
@@ -210,14 +210,14 @@ both_answers e trusted w lent time made end asked aimed both =
     (ap (λ (p : PassState). p.bytes.items) both.second.second) (omega (arith, both.questions)))
 
 both_enter : (e : Errand) → IsTrusted e → (w : Walk) (lent : Option (List ℕ)) (time made : ℕ) (end : Machine) (asked : ℕ) → IsAimed e w → InBoth e w lent time made end asked → w.wire.items ≡ end.bytes.items →
-    On lent (λ words. EnterStruck e w words asked)
+    On lent (λ words. HasCopy e w words asked)
 both_enter e trusted w lent time made end asked aimed both copy =
-    on_map (λ words. IsHonestResult e w words asked) (λ words. EnterStruck e w words asked) lent
+    on_map (λ words. IsHonestResult e w words asked) (λ words. HasCopy e w words asked) lent
     (λ words a. record { answers = a; wire = copy ∙ sym (ap (λ (p : PassState). p.bytes.items) both.second.second) })
     (both_answers e trusted w lent time made end asked aimed both)
 
 -- in Send and Done the words are those of the end
-pub answers_answered : (e : Errand) → IsTrusted e → (w : Walk) (time made : ℕ) (end : Machine) (asked : ℕ) → IsAimed e w → HasOutput e w time made end asked → SendStruck e w asked
+pub answers_answered : (e : Errand) → IsTrusted e → (w : Walk) (time made : ℕ) (end : Machine) (asked : ℕ) → IsAimed e w → HasOutput e w time made end asked → HasCopyOfSome e w asked
 answers_answered e trusted w time made end asked aimed i =
     let reply : reply_of w ≡ end.bytes.items = ap (λ (p : PassState). p.bytes.items) i.second.second in
     record {
@@ -230,7 +230,7 @@ answers_answered e trusted w time made end asked aimed i =
 
 -- Enter and Give
 
-enter_always : (e : Errand) (w : Walk) (words : List ℕ) (asked more : ℕ) → asked ≤ more → w.want ≡ Nothing → w.gate.done ≡ 7 → EnterStruck e w words asked →
+enter_always : (e : Errand) (w : Walk) (words : List ℕ) (asked more : ℕ) → asked ≤ more → w.want ≡ Nothing → w.gate.done ≡ 7 → HasCopy e w words asked →
     Always (ActsWell e Enter more) (enter_tree w words)
 enter_always e w words asked more le nothing gate s =
     let next : risen w.gate.done ≡ 8 = ap risen gate in
@@ -240,7 +240,7 @@ enter_always e w words asked more le nothing gate s =
     (Onward next (enter_at e w (record v { place = at Give 0 }) words asked more refl refl refl refl le s)))
     (aborts_well e Enter more w words (Gate w.gate.done) nothing gate)
 
-give_always : (e : Errand) (w : Walk) (words : List ℕ) (asked more : ℕ) → asked ≤ more → w.want ≡ Nothing → w.gate.done ≡ 8 → EnterStruck e w words asked →
+give_always : (e : Errand) (w : Walk) (words : List ℕ) (asked more : ℕ) → asked ≤ more → w.want ≡ Nothing → w.gate.done ≡ 8 → HasCopy e w words asked →
     Always (ActsWell e Give more) (give_tree w words)
 give_always e w words asked more le nothing gate s =
     let next : risen w.gate.done ≡ 9 = ap risen gate in
@@ -253,7 +253,7 @@ give_always e w words asked more le nothing gate s =
 pub enter_laws : (e : Errand) → IsTrusted e → PhaseLaws e Enter
 enter_laws e trusted = record {
   moved = λ w lent steps asked index i knows.
-      on_map (λ words. EnterStruck e w words asked) (λ words. EnterStruck e (record w { place = at Enter index }) words asked) lent
+      on_map (λ words. HasCopy e w words asked) (λ words. HasCopy e (record w { place = at Enter index }) words asked) lent
       (λ words s. enter_at e w (record w { place = at Enter index }) words asked asked refl refl refl refl (not_less asked) s)
       (both_enter e trusted w lent i.time i.made i.end asked knows i.both i.copy);
   struck = λ now small told w words steps asked n y nothing i knows run.
@@ -267,7 +267,7 @@ enter_laws e trusted = record {
 pub give_laws : (e : Errand) → IsTrusted e → PhaseLaws e Give
 give_laws e trusted = record {
   moved = λ w lent steps asked index i knows.
-      on_map (λ words. EnterStruck e w words asked) (λ words. EnterStruck e (record w { place = at Give index }) words asked) lent
+      on_map (λ words. HasCopy e w words asked) (λ words. HasCopy e (record w { place = at Give index }) words asked) lent
       (λ words s. enter_at e w (record w { place = at Give index }) words asked asked refl refl refl refl (not_less asked) s)
       (both_enter e trusted w lent i.time i.made i.end asked knows i.both i.copy);
   struck = λ now small told w words steps asked n y nothing i knows run.
@@ -284,11 +284,11 @@ not_empty : (byte : ℕ) (bytes reply : List ℕ) → reply ≡ byte ∷ bytes �
 not_empty byte bytes reply e f = let z : ⊥ = cc in z
 
 -- a reply that is empty is not wanted to be sent
-send_wants : (e : Errand) (v : Walk) (asked : ℕ) (reply : List ℕ) → reply_of v ≡ reply → SendStruck e v asked → Wanted e v None asked (send_want reply)
+send_wants : (e : Errand) (v : Walk) (asked : ℕ) (reply : List ℕ) → reply_of v ≡ reply → HasCopyOfSome e v asked → Wanted e v None asked (send_want reply)
 send_wants e v asked [] is s = tt
 send_wants e v asked (byte ∷ bytes) is s = (s, not_empty byte bytes (reply_of v) is)
 
-send_always : (e : Errand) (w : Walk) (words : List ℕ) (asked more : ℕ) → asked ≤ more → w.want ≡ Nothing → w.gate.done ≡ 9 → SendStruck e w asked →
+send_always : (e : Errand) (w : Walk) (words : List ℕ) (asked more : ℕ) → asked ≤ more → w.want ≡ Nothing → w.gate.done ≡ 9 → HasCopyOfSome e w asked →
     Always (ActsWell e Send more) (send_tree w words)
 send_always e w words asked more le nothing gate s =
     let next : risen w.gate.done ≡ 10 = ap risen gate in
@@ -298,7 +298,7 @@ send_always e w words asked more le nothing gate s =
     (Onward next (send_at e w (record v { place = at Done 0 }) asked more refl refl refl refl le s)))
     (aborts_well e Send more w words (Gate w.gate.done) nothing gate)
 
-done_always : (e : Errand) (w : Walk) (words : List ℕ) (asked more : ℕ) → asked ≤ more → w.want ≡ Nothing → w.gate.done ≡ 10 → SendStruck e w asked →
+done_always : (e : Errand) (w : Walk) (words : List ℕ) (asked more : ℕ) → asked ≤ more → w.want ≡ Nothing → w.gate.done ≡ 10 → HasCopyOfSome e w asked →
     Always (ActsWell e Done more) (done_tree w words)
 done_always e w words asked more le nothing gate s =
     let next : risen w.gate.done ≡ 11 = ap risen gate in

@@ -27,14 +27,14 @@ use Rattle.sei_traverse.specs.declared.walk.Ending.TheVariants.{Leads, Refuses}
 use Rattle.sei_traverse.specs.declared.walk.Walk.{Walk}
 use Rattle.sei_traverse.specs.Acts.{Acted, acted, at}
 use Rattle.sei_traverse.specs.Errand.{Errand, Follows}
-use Rattle.sei_traverse.specs.Facts.{Knows, StruckCase, LendsIn, Wanted, IsUnfitInput}
+use Rattle.sei_traverse.specs.Facts.{Knows, StruckCase, Wanted, IsUnfitInput}
 use Rattle.sei_traverse.proofs.ClosesNext.{ClosesNext}
 use Rattle.sei_traverse.specs.Facts.StruckCase.{Right, Lost}
 use Rattle.sei_traverse.proofs.ClosesNext.ClosesNext.{Closes}
-use Rattle.sei_traverse.specs.OnWay.{lent_words}
+use Rattle.sei_traverse.specs.OnWay.{lent_words, LendsIn}
 use Rattle.sei_traverse.specs.Service.{Given, has_sealed_call}
 use Rattle.sei_traverse.specs.Step.{Turn, turn, aborted, arrival, act_in, act_tree, is_last, next_phase, site_of, skipped, goes, goes_on, once, twice, turn_as, turn_at}
-use Rattle.sei_traverse.specs.Struck.{SendStruck, StruckIn}
+use Rattle.sei_traverse.specs.Struck.{HasCopyOfSome, StruckIn}
 use Rattle.sei_traverse.specs.Trusted.{PassesGuard, IsTrusted}
 use Rattle.sei_traverse.specs.Unstruck.{NextIn, CleanIn}
 use Rattle.sei_traverse.proofs.ActKeeps.{HonestlyKeeps, OnlyCloses}
@@ -225,7 +225,7 @@ module _ (e : Errand) (trusted : IsTrusted e) (laws : (phase : Phase) → (phase
         by_phase (inr apart) = raised e (StruckStands e) (left_of loan) (phase_number w.place.phase) (asked + 0) (asked + n) (honest (once g later a.walk a.left)) (omega arith) (lost_again apart)
 
   module _ (fit : PassesGuard e) (last : w.place.phase ≡ Done) (f : Finishes e (given_with e loan) now w.place.phase w (words_of loan) steps asked) where
-    sends : SendStruck e (record f.walk { place = at Done 1 }) asked
+    sends : HasCopyOfSome e (record f.walk { place = at Done 1 }) asked
     sends = end_sends e answered now loan w steps asked w.place.phase last knows f
 
     end_is_kept : HonestlyKeeps w (acted f.walk f.left (Leads (at Done 1)))

@@ -5,18 +5,17 @@ use Rattle.sei_fault.specs.Phases.{phase_number}
 use Rattle.sei_fault.specs.declared.place.Phase.{Phase}
 use Rattle.sei_fault.specs.declared.place.Phase.TheVariants.{Guard, Take, Enter, Give, Send, Done}
 use Rattle.sei_words.specs.Words.{BucketWords}
-use Rattle.sei_pass.specs.Setting.{is_intact}
 use Rattle.sei_traverse.specs.declared.turned.State.{State}
 use Rattle.sei_traverse.specs.declared.turned.State.TheVariants.{Went, Finished, Refused, Aborted}
 use Rattle.sei_traverse.specs.declared.turned.Want.{Want}
 use Rattle.sei_traverse.specs.declared.turned.Want.TheVariants.{Nothing, Take as WantTake, Enter as WantEnter, Give as WantGive, Send as WantSend}
 use Rattle.sei_traverse.specs.declared.walk.Walk.{Walk}
 use Rattle.sei_traverse.specs.Errand.{Errand, given_in}
-use Rattle.sei_traverse.specs.OnWay.{lent_words, LendsBucket, IsClean, IsCleanEnd}
+use Rattle.sei_traverse.specs.OnWay.{lent_words, LendsIn, LendsBucket, IsClean, IsCleanEnd}
 use Rattle.sei_traverse.specs.Phases.{reply_of, send_want}
-use Rattle.sei_traverse.specs.Service.{has_sealed_call}
+use Rattle.sei_traverse.specs.Service.{FailsGuard}
 use Rattle.sei_traverse.specs.State.{TraversalState}
-use Rattle.sei_traverse.specs.Struck.{IsAimed, IsHonestResult, On, SendStruck, StruckIn}
+use Rattle.sei_traverse.specs.Struck.{IsAimed, IsHonestResult, On, HasCopyOfSome, StruckIn}
 use Rattle.sei_traverse.specs.Trusted.{PassesGuard}
 
 -- behind Guard the input is known to be fit, and behind Take the wanted bucket to be the call's
@@ -50,19 +49,6 @@ pub record Facts (e : Errand) (t : TraversalState) (lent : Option (List ℕ)) (b
   pub unstruck : now.struck ≡ begin.struck → IsUnstruck e t lent begin now
   pub struck : now.struck ≡ begin.struck + 1 → IsStruck e t lent begin now
 
--- the caller lends the wanted bucket from the want of Take to the want of Give, and no other words
-
-abbrev pub LendsBucketOf : ℕ → Option BucketWords → Type 0
-LendsBucketOf wanted None = ⊥
-LendsBucketOf wanted (Some b) = b.bucket ≡ wanted
-
-abbrev pub LendsIn : ℕ → Phase → Option BucketWords → Type 0
-LendsIn wanted Guard loan = loan ≡ None
-LendsIn wanted Take loan = loan ≡ None
-LendsIn wanted Send loan = loan ≡ None
-LendsIn wanted Done loan = loan ≡ None
-LendsIn wanted phase loan = LendsBucketOf wanted loan
-
 -- the gate closed as many phases as stand before the walk's own
 abbrev pub IsRight : Walk → Type 0
 IsRight w = w.gate.done ≡ phase_number w.place.phase
@@ -91,7 +77,7 @@ Wanted e w lent asked Nothing = ⊤
 Wanted e w lent asked (WantTake bucket) = (bucket ≡ w.wanted) × (bucket < e.geometry.buckets)
 Wanted e w lent asked WantEnter = On lent (λ words. IsHonestResult e w words asked)
 Wanted e w lent asked WantGive = On lent (λ words. IsHonestResult e w words asked)
-Wanted e w lent asked WantSend = SendStruck e w asked × (reply_of w ≢ [])
+Wanted e w lent asked WantSend = HasCopyOfSome e w asked × (reply_of w ≢ [])
 
 -- what is wanted where a phase is closed
 abbrev pub closing_want : Walk → Phase → Want
@@ -129,14 +115,14 @@ pub record Wants (e : Errand) (t : TraversalState) (left : Option BucketWords) (
 pub record IsAtEnd (e : Errand) (t : TraversalState) (begin now : Counts) : Type 0 where
   pub gate : t.walk.gate.done ≡ 11
   pub asked : ℕ
-  pub answered : SendStruck e t.walk asked
+  pub answered : HasCopyOfSome e t.walk asked
   pub counted : now.asked < 2 ^ 128 - 1 → begin.asked + asked ≤ now.asked
   pub twice : now.struck ≡ begin.struck → now.asked < 2 ^ 128 - 1 → begin.asked + 2 * asked ≤ now.asked
   pub unstruck : now.struck ≡ begin.struck → IsCleanEnd e t begin now
 
 -- the input does not pass the tests of Guard
 abbrev pub IsUnfitInput : Errand → Type 0
-IsUnfitInput e = (is_intact e.sealed e.input ≡ false) ⊎ (has_sealed_call (given_in e) e.sealed ≡ false)
+IsUnfitInput e = FailsGuard (given_in e) e.sealed
 
 -- it was refused before Take was closed, for its input or for a strike
 pub record IsRefused (e : Errand) (t : TraversalState) (begin now : Counts) : Type 0 where

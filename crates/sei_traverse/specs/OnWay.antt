@@ -9,10 +9,9 @@ use Rattle.sei_traverse.specs.declared.turned.State.{State}
 use Rattle.sei_traverse.specs.declared.turned.State.TheVariants.{Went, Finished, Refused, Aborted}
 use Rattle.sei_traverse.specs.declared.turned.Want.{Want}
 use Rattle.sei_traverse.specs.declared.walk.Walk.{Walk}
-use Rattle.sei_pass.specs.Setting.{is_intact}
 use Rattle.sei_traverse.specs.Acts.{at}
 use Rattle.sei_traverse.specs.Errand.{Errand, TellsTime}
-use Rattle.sei_traverse.specs.Service.{Given, has_sealed_call}
+use Rattle.sei_traverse.specs.Service.{Given, FailsGuard}
 use Rattle.sei_traverse.specs.State.{TraversalState}
 use Rattle.sei_traverse.specs.Unstruck.{want_in, NextIn, Clean, IsFinished}
 
@@ -20,18 +19,26 @@ use Rattle.sei_traverse.specs.Unstruck.{want_in, NextIn, Clean, IsFinished}
 abbrev pub lent_words : Option BucketWords → Option (List ℕ)
 lent_words = option_map (λ (b : BucketWords). b.words)
 
--- the errand's bucket is lent
-abbrev pub LendsBucket : Errand → Option BucketWords → Type 0
-LendsBucket e None = ⊥
-LendsBucket e (Some b) = b.bucket ≡ e.call.bucket
+-- the bucket with this number is lent
+abbrev pub LendsBucketOf : ℕ → Option BucketWords → Type 0
+LendsBucketOf wanted None = ⊥
+LendsBucketOf wanted (Some b) = b.bucket ≡ wanted
 
--- the bucket is lent from the want of Take to the want of Give
+-- it is lent from the want of Take to the want of Give, and no other words are
+abbrev pub LendsIn : ℕ → Phase → Option BucketWords → Type 0
+LendsIn wanted Guard loan = loan ≡ None
+LendsIn wanted Take loan = loan ≡ None
+LendsIn wanted Send loan = loan ≡ None
+LendsIn wanted Done loan = loan ≡ None
+LendsIn wanted phase loan = LendsBucketOf wanted loan
+
+-- the same of the errand's bucket
+
+abbrev pub LendsBucket : Errand → Option BucketWords → Type 0
+LendsBucket e loan = LendsBucketOf e.call.bucket loan
+
 abbrev pub Lends : Errand → Phase → Option BucketWords → Type 0
-Lends e Guard loan = loan ≡ None
-Lends e Take loan = loan ≡ None
-Lends e Send loan = loan ≡ None
-Lends e Done loan = loan ≡ None
-Lends e phase loan = LendsBucket e loan
+Lends e phase loan = LendsIn e.call.bucket phase loan
 
 -- a step's clock is the errand's: it tells the same, or the errand says nothing of what it tells, and that has 64 bits
 abbrev pub TellsAs : Option ℕ → Option ℕ → Type 0
@@ -73,11 +80,7 @@ pub record StaysOnWay (e : Errand) (old new : TraversalState) (lent : Option (Li
   pub wants : now.struck ≡ begin.struck → want ≡ want_in e old.walk old.walk.place.phase
   pub next : now.struck ≡ begin.struck → NextIn old.walk.place.phase old.walk.place.index new.walk.place.phase
 
--- a traversal in Guard whose input is not the sealed one, or not one whole request with the sealed call
-pub data Fails (g : Given) (w : Walk) : Type 0 where
-  Altered : is_intact w.sealed g.input ≡ false → Fails g w
-  NoCall : has_sealed_call g w.sealed ≡ false → Fails g w
-
+-- a traversal in Guard whose input does not pass the tests
 pub record IsUnfit (g : Given) (w : Walk) : Type 0 where
   pub place : w.place ≡ at Guard 0
-  pub fails : Fails g w
+  pub fails : FailsGuard g w.sealed

@@ -1,5 +1,5 @@
 -- What a traversal is given of its handler, and with each step.
-use Rattle.std.specs.Prelude.{ℕ, Bool, false, nat_lt, List, Option, Some, None}
+use Rattle.std.specs.Prelude.{◌≡◌, ◌⊎◌, ℕ, Bool, false, nat_lt, List, Option, Some, None}
 use Rattle.sei_code.specs.Coded.{read_of}
 use Rattle.mc_model.specs.declared.geometry.Geometry.{Geometry}
 use Rattle.sei_stmt.specs.declared.stmt.Stmt.{Stmt}
@@ -7,7 +7,7 @@ use Rattle.sei_stmt.specs.Handling.{Parsed, parsed_bucket}
 use Rattle.sei_stmt.specs.Machine.{Setting}
 use Rattle.sei_pass.specs.declared.given.Sealed.{Sealed}
 use Rattle.sei_pass.specs.declared.given.Which.{Which}
-use Rattle.sei_pass.specs.Setting.{sealed_call, setting_of}
+use Rattle.sei_pass.specs.Setting.{is_intact, sealed_call, setting_of}
 
 -- a handler: its table, how many calls an input has, each call of an input, and the bytes that output words stand for
 pub record Service : Type 0 where
@@ -38,6 +38,10 @@ has_call (Some calls) (Some nth) = nat_lt nth calls
 -- the input is one whole request that has the sealed call
 abbrev pub has_sealed_call : Given → Sealed → Bool
 has_sealed_call g sealed = has_call (g.service.calls g.input) (read_of sealed.nth)
+
+-- the input does not pass the tests of Guard: it is not the sealed one, or not one whole request with the sealed call
+abbrev pub FailsGuard : Given → Sealed → Type 0
+FailsGuard g sealed = (is_intact sealed g.input ≡ false) ⊎ (has_sealed_call g sealed ≡ false)
 
 abbrev pub call_of : Given → Sealed → Option Parsed
 call_of g sealed = sealed_call (g.service.parsed g.input) sealed.nth

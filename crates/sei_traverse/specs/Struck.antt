@@ -187,13 +187,13 @@ pub record VerifyStruck (e : Errand) (w : Walk) (words : List ℕ) (asked : ℕ)
 
 -- behind them
 
-pub record EnterStruck (e : Errand) (w : Walk) (words : List ℕ) (asked : ℕ) : Type 0 where
+pub record HasCopy (e : Errand) (w : Walk) (words : List ℕ) (asked : ℕ) : Type 0 where
   pub answers : IsHonestResult e w words asked
   pub wire : w.wire.items ≡ reply_of w
 
-pub record SendStruck (e : Errand) (w : Walk) (asked : ℕ) : Type 0 where
+pub record HasCopyOfSome (e : Errand) (w : Walk) (asked : ℕ) : Type 0 where
   pub words : List ℕ
-  pub answered : EnterStruck e w words asked
+  pub answered : HasCopy e w words asked
 
 -- words are lent, and this is so of them
 abbrev pub On : Option (List ℕ) → (List ℕ → Type 0) → Type 0
@@ -209,7 +209,7 @@ StruckIn e w lent asked Restore = (SecondIsNew e w) × On lent (λ words. Restor
 StruckIn e w lent asked Second = On lent (λ words. SecondStruck e w words (Next w.place.index) asked)
 StruckIn e w lent asked Compare = On lent (λ words. CompareStruck e w words asked)
 StruckIn e w lent asked Verify = On lent (λ words. VerifyStruck e w words asked)
-StruckIn e w lent asked Enter = On lent (λ words. EnterStruck e w words asked)
-StruckIn e w lent asked Give = On lent (λ words. EnterStruck e w words asked)
-StruckIn e w lent asked Send = SendStruck e w asked
-StruckIn e w lent asked Done = SendStruck e w asked
+StruckIn e w lent asked Enter = On lent (λ words. HasCopy e w words asked)
+StruckIn e w lent asked Give = On lent (λ words. HasCopy e w words asked)
+StruckIn e w lent asked Send = HasCopyOfSome e w asked
+StruckIn e w lent asked Done = HasCopyOfSome e w asked
