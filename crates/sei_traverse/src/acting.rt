@@ -18,6 +18,7 @@ use sei_stmt::Handler;
 
 impl Walk {
     /// Does what is to be done at this place.
+    // It stays a call, so that the step around it is small enough to be inlined into a caller's loop.
     #[inline(never)]
     pub fn act<H: Handler, L: Slots, K: Core, C: Clock>(
         &mut self,
