@@ -1,5 +1,5 @@
 -- A traversal that is on its way still is behind a step.
-use Rattle.std.proofs.Common.{◌≡◌, ℕ, suc, ◌+◌, ◌-◌, ◌^◌, ◌<◌, ◌≤◌, ◌⊎◌, inl, inr, List, Option, Some, None, false, refl, sym, ap, ◌∙◌, subst, arith}
+use Rattle.std.proofs.Common.{◌≡◌, ℕ, suc, ◌+◌, ◌-◌, ◌^◌, ◌<◌, ◌≤◌, ◌⊎◌, inl, inr, List, Option, Some, None, refl, sym, ap, ◌∙◌, subst, arith}
 use Rattle.mc_model.specs.declared.geometry.Geometry.{Geometry}
 use Rattle.sei_fault.specs.Counts.{Counts, Answered}
 use Rattle.sei_fault.specs.declared.place.Act.TheVariants.{Plain}
@@ -10,7 +10,6 @@ use Rattle.sei_fault.specs.Question.{Question, Answer, honestly_to}
 use Rattle.sei_fault.specs.Tree.{Runs, any_core, honest, questions}
 use Rattle.sei_fault.proofs.Runs.{counted_runs}
 use Rattle.sei_fault.proofs.Strikes.{grows, never_falls}
-use Rattle.sei_pass.specs.Setting.{is_intact}
 use Rattle.sei_pass.specs.Steps.{IsAnswer}
 use Rattle.sei_words.specs.Loan.{words_of, bucket_of, place_of}
 use Rattle.sei_words.specs.Words.{BucketWords}
@@ -21,7 +20,7 @@ use Rattle.sei_traverse.specs.declared.walk.Walk.{Walk}
 use Rattle.sei_traverse.specs.Acts.{at}
 use Rattle.sei_traverse.specs.Errand.{Errand, IsErrand, TellsTime, Follows, given_in}
 use Rattle.sei_traverse.specs.OnWay.{lent_words, Lends, TellsAs, IsClean, OnWay, IsCleanEnd, OnWayAfter, StaysOnWay, IsUnfit}
-use Rattle.sei_traverse.specs.Service.{Service, Given, given_of, has_sealed_call, FailsGuard}
+use Rattle.sei_traverse.specs.Service.{Service, Given, given_of, FailsGuard}
 use Rattle.sei_traverse.specs.State.{TraversalState, one_more}
 use Rattle.sei_traverse.specs.Step.{Turn, turn, turn_tree, TimedTwice}
 use Rattle.sei_traverse.specs.Unstruck.{want_in, NextIn, CleanIn, IsFinished}

@@ -1,9 +1,9 @@
 -- What is known of a traversal that was struck at most once since it began, at each of its steps.
-use Rattle.std.specs.Prelude.{◌≡◌, ◌≢◌, ℕ, ◌+◌, ◌*◌, ◌-◌, ◌^◌, ◌<◌, ◌≤◌, ◌⊎◌, false, List, [], Option, Some, None, ⊤}
+use Rattle.std.specs.Prelude.{◌≡◌, ◌≢◌, ℕ, ◌+◌, ◌*◌, ◌-◌, ◌^◌, ◌<◌, ◌≤◌, ◌⊎◌, List, [], Option, Some, None, ⊤}
 use Rattle.sei_fault.specs.Counts.{Counts}
 use Rattle.sei_fault.specs.Phases.{phase_number}
 use Rattle.sei_fault.specs.declared.place.Phase.{Phase}
-use Rattle.sei_fault.specs.declared.place.Phase.TheVariants.{Guard, Take, Enter, Give, Send, Done}
+use Rattle.sei_fault.specs.declared.place.Phase.TheVariants.{Guard, Take, Enter, Give, Send}
 use Rattle.sei_words.specs.Words.{BucketWords}
 use Rattle.sei_traverse.specs.declared.turned.State.{State}
 use Rattle.sei_traverse.specs.declared.turned.State.TheVariants.{Went, Finished, Refused, Aborted}

@@ -1,5 +1,5 @@
 -- A traversal that is on its way: where no strike fell since it began, it stands where its definition leads.
-use Rattle.std.specs.Prelude.{◌≡◌, ℕ, false, ◌+◌, ◌-◌, ◌^◌, ◌<◌, ◌≤◌, List, Option, Some, None}
+use Rattle.std.specs.Prelude.{◌≡◌, ℕ, ◌+◌, ◌-◌, ◌^◌, ◌<◌, ◌≤◌, List, Option, Some, None}
 use Rattle.std.specs.Option.{option_map}
 use Rattle.sei_fault.specs.Counts.{Counts}
 use Rattle.sei_fault.specs.declared.place.Phase.{Phase}
