@@ -1,13 +1,11 @@
-//! Traversals over a small table, with the plain core or with one strike, and a clock that is set.
-ghost use Rattle.std.specs.Prelude.{◌≡◌, true, false};
-ghost use Rattle.std.specs.Bool.{OnTrue, OnFalse};
-ghost use Rattle.sei_fault.specs.Counts.{counted};
+//! Traversals over a small table, with the plain core or with one planned fault, and a clock that is set.
+ghost use Rattle.std.specs.Prelude.{◌≡◌, true};
 ghost use Rattle.sei_traverse.specs.State.{is_running};
 
 use super::*;
 use mc_model::Geometry;
 use sei_code::{Buffer, Coded, Mode, Rendered, WordList, message_code};
-use sei_fault::{AbortCause, Core, Phase, Place, PlainCore, Site, Times};
+use sei_fault::{AbortCause, Core, Kind, Phase, Place, PlainCore, Planned, ScriptCore, Select};
 use sei_outside::SetClock;
 use sei_pass::Sealed;
 use sei_stmt::{Handler, Modeled, Stmt, Table};
@@ -108,102 +106,13 @@ fn sealed(input: &[u8], nth: Coded) -> Sealed {
     }
 }
 
-/// What a strike does.
-#[derive(Clone, Copy, Debug, PartialEq, Eq)]
-enum Strike {
-    /// It leaves the act out.
-    Skips,
-    /// It negates a test.
-    Negates,
-    /// It stores another word.
-    Writes,
-}
-
-/// Strikes once: at the first question of one kind at one place.
-#[derive(Drop)]
-struct Striking {
-    place: Place,
-    strike: Strike,
-    /// Whether this is the place.
-    here: bool,
-    fell: bool,
-    asked: u128,
-}
-
-impl Striking {
-    fn new(strike: Strike, phase: Phase, index: u64) -> Striking {
-        Striking {
-            place: Place { phase, index },
-            strike,
-            here: false,
-            fell: false,
-            asked: 0,
-        }
-    }
-
-    /// Counts one question of this kind, and answers whether the strike falls with it.
-    fn falls(&mut self, strike: Strike) -> bool
-        ensures asked { self.new.asked ≡ counted self.old.asked }
-        ensures before { OnTrue result (self.old.fell ≡ false) }
-        ensures struck { OnTrue result (self.new.fell ≡ true) }
-        ensures honest { OnFalse result (self.new.fell ≡ self.old.fell) }
-    {
-        self.asked = self.asked.saturating_add(1);
-        let falls = self.here && strike == self.strike && !self.fell;
-        if falls {
-            self.fell = true;
-        }
-        falls
-    }
-}
-
-impl Core for Striking {
-    ghost use Rattle.std.specs.Prelude.{◌≡◌, None, if◌then◌else◌};
-    ghost use Rattle.sei_fault.specs.Counts.{Answered};
-    ghost use Rattle.sei_fault.specs.Question.{honestly_to};
-
-    ghost counts = { λ c. record { asked = c.asked; struck = if c.fell then 1 else 0; room = None } };
-
-    ghost gives = { λ s q a t. Answered (a ≡ honestly_to q)
-        (record { asked = s.asked; struck = if s.fell then 1 else 0; room = None })
-        (record { asked = t.asked; struck = if t.fell then 1 else 0; room = None }) };
-
-    fn value(&mut self, honest: u64) -> u64 {
-        self.asked = self.asked.saturating_add(1);
-        honest
-    }
-
-    fn written(&mut self, honest: u64) -> u64 {
-        if self.falls(Strike::Writes) {
-            honest ^ 1
-        } else {
-            honest
-        }
-    }
-
-    fn test(&mut self, honest: bool) -> bool {
-        if self.falls(Strike::Negates) {
-            !honest
-        } else {
-            honest
-        }
-    }
-
-    fn times(&mut self, site: Site) -> Times {
-        self.here = site.place == self.place;
-        if self.falls(Strike::Skips) {
-            Times::Skip
-        } else {
-            Times::Once
-        }
-    }
-
-    fn next(&mut self, honest: Place) -> Place {
-        self.asked = self.asked.saturating_add(1);
-        honest
-    }
-
-    ghost lawful = { λ s q a t given. given };
+/// The core with a planned fault at this step.
+fn struck(phase: Phase, index: u64, kind: Kind) -> ScriptCore {
+    ScriptCore::new(Some(Planned {
+        phase,
+        select: Select::Index(index),
+        kind,
+    }))
 }
 
 /// One step for the input `x` at second 1000, with the words lent or not.
@@ -438,17 +347,17 @@ fn a_strike_aborts(rt: HostRuntime) -> Result<(), Fail> {
     let call = sealed(b"x", Coded::seal(0));
     for (mut core, phase, cause) in [
         (
-            Striking::new(Strike::Skips, Phase::Second, 6),
+            struck(Phase::Second, 6, Kind::Skip),
             Phase::Compare,
             AbortCause::Gate { done: 4 },
         ),
         (
-            Striking::new(Strike::Negates, Phase::Enter, 0),
+            struck(Phase::Enter, 0, Kind::Flip),
             Phase::Enter,
             AbortCause::Gate { done: 7 },
         ),
         (
-            Striking::new(Strike::Writes, Phase::Second, 3),
+            struck(Phase::Second, 3, Kind::Write { mask: 1 }),
             Phase::Verify,
             AbortCause::Differs { index: 0 },
         ),
@@ -459,7 +368,6 @@ fn a_strike_aborts(rt: HostRuntime) -> Result<(), Fail> {
             [Want::Take { bucket: 0 }].as_slice()
         );
         assert_eq!(rt; served.way.state, State::Aborted(Abort { phase, cause }));
-        assert!(rt; core.fell);
     }
     Ok(())
 }
