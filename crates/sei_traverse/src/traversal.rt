@@ -65,7 +65,7 @@ pub fn most_steps(g: &Geometry) -> u64
 }
 
 impl Traversal {
-    /// A traversal that has not begun_traversal, with the room that each call of this geometry needs. Nothing
+    /// A traversal that has not begun, with the room that each call of this geometry needs. Nothing
     /// is allocated afterwards.
     pub fn new(alloc: Global, g: &Geometry) -> Result<Traversal, Memory>
         requires { IsValid g.now }
