@@ -3,3 +3,5 @@ pub mod MapLaws
 pub mod WithinLaws
 pub mod Worked
 pub mod PackLaws
+pub mod PublicBuckets
+pub mod PublicPacking

@@ -149,7 +149,7 @@ IsMap-filter p (e ∷ es) m = by_test (p e) (IsMap-filter p es m.1)
 pub IsMap-live : (t : ℕ) (es : Entries) → IsMap es → IsMap (live_entries t es)
 IsMap-live t es m = IsMap-filter (λ e. is_live t e.1) es m
 
-map_after : (key : List ℕ) (d : Change) (es : Entries) → IsMap es → IsMap (items_after key d es)
+pub map_after : (key : List ℕ) (d : Change) (es : Entries) → IsMap es → IsMap (items_after key d es)
 map_after key Keep es m = m
 map_after key (Put x) es m = IsMap-put key x es m
 map_after key (Draw x) es m = IsMap-put key x es m

@@ -54,6 +54,10 @@ abbrev pub IsMap : Entries → Type 0
 IsMap [] = Unit {0}
 IsMap (e ∷ es) = (lookup e.0 es ≡ None) × IsMap es
 
+-- what holds of each bucket that calls leave
+pub record IsBucket (b : Bucket) : Type 0 where
+  pub map : IsMap b.items
+
 -- the item, unless it has expired
 abbrev pub if_live : ℕ → Option Item → Option Item
 if_live moment None = None

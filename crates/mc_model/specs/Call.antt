@@ -2,7 +2,26 @@
 use Rattle.std.specs.Prelude.{◌≡◌, ℕ, ◌%◌, ◌<◌, Bool, true, false, List, []}
 use Rattle.sei_code.specs.Codes.{fnv64}
 use Rattle.mc_model.specs.declared.call.Verb.{Verb}
-use Rattle.mc_model.specs.declared.call.Verb.TheVariants.{Flush, Fixed}
+use Rattle.mc_model.specs.declared.call.Verb.TheVariants.{Set, Add, Replace, Append, Prepend, Cas, Get, Gets, Gat, Gats, Touch, Delete, Incr, Decr, Flush, Fixed}
+
+-- the commands are numbered in the order of the type
+abbrev pub verb_number : Verb → ℕ
+verb_number Set = 0
+verb_number Add = 1
+verb_number Replace = 2
+verb_number Append = 3
+verb_number Prepend = 4
+verb_number Cas = 5
+verb_number Get = 6
+verb_number Gets = 7
+verb_number Gat = 8
+verb_number Gats = 9
+verb_number Touch = 10
+verb_number Delete = 11
+verb_number Incr = 12
+verb_number Decr = 13
+verb_number Flush = 14
+verb_number Fixed = 15
 
 -- fields that its command has not are 0, false or empty; `last` and `noreply` are its marks, `text` is the number of a fixed text
 pub record Call : Type 0 where

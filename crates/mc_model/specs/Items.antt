@@ -4,12 +4,16 @@ use Rattle.mc_model.specs.declared.outcome.Seen.{Seen}
 use Rattle.mc_model.specs.Bucket.{Item}
 use Rattle.mc_model.specs.Call.{Call}
 
+-- the longest exptime that is counted from now, in seconds
+abbrev pub thirty_days : ℕ
+thirty_days = 2592000
+
 -- protocol.txt, "Expiration times": 0 is never, a negative one is at once, up to 30 days are counted from now, more is the second itself
 abbrev pub expiry_of : ℕ → Bool → ℕ → ℕ
 expiry_of moment negative exptime =
     if exptime == 0 then 0
     else if negative then 1
-    else if nat_le exptime 2592000 then min (moment + exptime) (2 ^ 64 - 1)
+    else if nat_le exptime thirty_days then min (moment + exptime) (2 ^ 64 - 1)
     else exptime
 
 -- the cas unique that is drawn: one more than the counter

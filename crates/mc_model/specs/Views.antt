@@ -2,6 +2,7 @@
 use Rattle.std.specs.Prelude.{ℕ, ◌<◌, ◌≤◌, List, length, slice_range}
 use Rattle.mc_model.specs.declared.call.CallSpan.{CallSpan}
 use Rattle.mc_model.specs.Call.{Call, Placed}
+use Rattle.mc_model.specs.Texts.{text_count}
 
 -- a call with this key and block
 abbrev pub call_with : List ℕ → List ℕ → CallSpan → Call
@@ -28,7 +29,7 @@ pub record IsSpanOf (input : List ℕ) (c : CallSpan) : Type 0 where
   pub key_end : c.key.to ≤ length input
   pub block_order : c.block.from ≤ c.block.to
   pub block_end : c.block.to ≤ length input
-  pub text : c.text < 17
+  pub text : c.text < text_count
 
 -- a call of the code, at its bucket
 abbrev pub placed_of : List ℕ → CallSpan → Placed

@@ -1,6 +1,7 @@
 ghost use Rattle.std.specs.Prelude.{◌≡◌, ◌<◌, IfOk, OnErr, replicate};
 ghost use Rattle.mc_model.specs.Bucket.{empty_bucket, purged};
 ghost use Rattle.mc_model.specs.Answer.{answer, counter_after, outcome_in};
+ghost use Rattle.mc_model.specs.Texts.{text_count};
 
 use crate::call::{KeyedCall, Room};
 use crate::commands::{outcome_with_item, outcome_without_item};
@@ -57,7 +58,7 @@ impl StoredBucket {
         moment: u64,
         call: &KeyedCall,
     ) -> Result<Outcome, Memory>
-        requires { call.now.text < 17 }
+        requires { call.now.text < text_count }
         ensures { IfOk result (λ outcome. outcome ≡ outcome_in room (purged (record self.now { moment = moment })) call.now) }
     {
         let seen = Seen {
@@ -81,7 +82,7 @@ impl StoredBucket {
         now: u64,
         call: &KeyedCall,
     ) -> Result<Vec<u8>, Memory>
-        requires { call.now.text < 17 }
+        requires { call.now.text < text_count }
         ensures ok { IfOk result (λ reply. (self.new, reply.items) ≡ answer room self.old now call.now) }
         ensures err { OnErr result (self.new ≡ self.old) }
     {

@@ -2,6 +2,7 @@
 ghost use Rattle.std.specs.Prelude.{◌≡◌, ◌<◌, ◌++◌, IfOk, Some, None, codes};
 ghost use Rattle.mc_model.specs.Numbers.{counter_value};
 ghost use Rattle.mc_model.specs.Replies.{end_text, value_text};
+ghost use Rattle.mc_model.specs.Texts.{text_count};
 ghost use Rattle.mc_model.specs.Outcome.{reply_only, storing, adding, comparing, joining, counting, reading, reading_and_touching, touching, removing, clearing, outcome_of};
 
 use crate::call::{KeyedCall, Verb};
@@ -216,7 +217,7 @@ fn clearing(alloc: Global, call: &KeyedCall) -> Result<Outcome, Memory>
 
 /// What a call does where its key has no item.
 pub fn outcome_without_item(alloc: Global, seen: &Seen, call: &KeyedCall) -> Result<Outcome, Memory>
-    requires { call.now.text < 17 }
+    requires { call.now.text < text_count }
     ensures { IfOk result (λ outcome. outcome ≡ outcome_of seen.now call.now call.now.verb None) }
 {
     match call.fields.verb {
@@ -238,7 +239,7 @@ pub fn outcome_with_item(
     call: &KeyedCall,
     item: &StoredItem,
 ) -> Result<Outcome, Memory>
-    requires { call.now.text < 17 }
+    requires { call.now.text < text_count }
     ensures { IfOk result (λ outcome. outcome ≡ outcome_of seen.now call.now call.now.verb (Some item.now)) }
 {
     let by = call.fields.value;

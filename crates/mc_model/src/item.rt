@@ -7,6 +7,9 @@ use sei_code::Memory;
 use std::alloc::Global;
 use std::marker::Model;
 
+/// The longest exptime that is counted from now, in seconds.
+pub const THIRTY_DAYS: u64 = 2592000;
+
 /// What the server keeps at a key.
 #[derive(Drop)]
 pub struct StoredItem {
@@ -56,7 +59,6 @@ impl Model for StoredEntry {
 pub fn expiry_of(moment: u64, negative: bool, exptime: u64) -> u64
     ensures { result ≡ expiry_of moment negative exptime }
 {
-    const THIRTY_DAYS: u64 = 2592000;
     if exptime == 0 {
         0
     } else if negative {

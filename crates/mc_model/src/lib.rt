@@ -13,10 +13,11 @@ mod outcome;
 mod packing;
 mod replies;
 mod server;
-mod texts;
+pub mod texts;
 
 pub use call::{CallSpan, Room, Span, Verb};
 pub use geometry::Geometry;
+pub use item::THIRTY_DAYS;
 pub use laws::buckets_stay_within_their_room;
 pub use number::number_upto;
 pub use packing::pack;

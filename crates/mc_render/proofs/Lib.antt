@@ -4,3 +4,4 @@ pub mod ShorterLaws
 pub mod RenderedLaws
 pub mod UnpackLaws
 pub mod OutputLaws
+pub mod PublicRendered

@@ -4,7 +4,7 @@ use Rattle.std.specs.Option.{option_map, option_and_then}
 use Rattle.std.specs.Fmt.{decimal}
 use Rattle.mc_model.specs.Packed.{words_for, unpacked}
 use Rattle.mc_model.specs.Replies.{value_text, unique_text}
-use Rattle.mc_model.specs.Texts.{line, text_line}
+use Rattle.mc_model.specs.Texts.{text_count, line, text_line}
 use Rattle.mc_render.specs.Shown.{Shown, shown}
 use Rattle.mc_render.specs.declared.output.Output.{Output}
 use Rattle.mc_render.specs.declared.output.Output.TheVariants.{Text, Value, Number}
@@ -19,9 +19,9 @@ output_text (Text number) = text_line number
 output_text (Value s) = value_text s.with_unique s.key s.item
 output_text (Number n) = line (decimal n)
 
--- there are 17 texts
+-- a text is one of the table
 abbrev pub IsKnown : Output → Type 0
-IsKnown (Text number) = number < 17
+IsKnown (Text number) = number < text_count
 IsKnown (Value s) = Unit {0}
 IsKnown (Number n) = Unit {0}
 
@@ -31,7 +31,7 @@ first_bytes n ws = if nat_le (words_for n) (length ws) then Some (unpacked n ws,
 
 -- a text of the table
 abbrev pub first_text : List ℕ → Option (Output × List ℕ)
-first_text (number ∷ ws) = if nat_lt number 17 then Some (Text number, ws) else None
+first_text (number ∷ ws) = if nat_lt number text_count then Some (Text number, ws) else None
 first_text [] = None
 
 -- an item with its cas unique or without, a key of 1 to 250 bytes, and a value of at most `limit` bytes
@@ -46,11 +46,21 @@ abbrev pub first_number : List ℕ → Option (Output × List ℕ)
 first_number (n ∷ ws) = Some (Number n, ws)
 first_number [] = None
 
--- the output that the words begin with, and the words behind it. The first word says of which kind it is.
+-- the first word of an output says of which kind it is
+abbrev pub text_kind : ℕ
+text_kind = 0
+
+abbrev pub value_kind : ℕ
+value_kind = 1
+
+abbrev pub number_kind : ℕ
+number_kind = 2
+
+-- the output that the words begin with, and the words after it
 abbrev pub first_output : ℕ → List ℕ → Option (Output × List ℕ)
 first_output limit (kind ∷ ws) =
-    if kind == 0 then first_text ws
-    else if kind == 1 then first_value limit ws
-    else if kind == 2 then first_number ws
+    if kind == text_kind then first_text ws
+    else if kind == value_kind then first_value limit ws
+    else if kind == number_kind then first_number ws
     else None
 first_output limit [] = None

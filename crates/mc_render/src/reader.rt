@@ -5,9 +5,16 @@ ghost use Rattle.mc_render.specs.Outputs.{IsKnown, first_text, first_value, firs
 
 use crate::output::{Output, ShownItem};
 use crate::packed::first_bytes;
+use mc_model::texts;
 
-/// How many fixed texts there are.
-const TEXTS: u64 = 17;
+/// The first word of a fixed text.
+const TEXT: u64 = 0;
+
+/// The first word of an item.
+const VALUE: u64 = 1;
+
+/// The first word of a number.
+const NUMBER: u64 = 2;
 
 const LONGEST_KEY: u64 = 250;
 
@@ -16,7 +23,10 @@ fn first_text(words: &[u64]) -> Option<(Output<'_>, &[u64])>
     ensures known { IfSome result (λ p. IsKnown p.0) }
 {
     match words {
-        [number, rest @ ..] if *number < TEXTS => Some((Output::Text(*number as u8), rest)),
+        [number, rest @ ..] if *number < u64::from(texts::COUNT) => Some((
+            Output::Text(*number as u8),
+            rest,
+        )),
         _ => None,
     }
 }
@@ -72,9 +82,9 @@ pub fn first_output(words: &[u64], value_bytes: u64) -> Option<(Output<'_>, &[u6
     ensures known { IfSome result (λ p. IsKnown p.0) }
 {
     match words {
-        [0, rest @ ..] => first_text(rest),
-        [1, rest @ ..] => first_value(rest, value_bytes),
-        [2, rest @ ..] => first_number(rest),
+        [TEXT, rest @ ..] => first_text(rest),
+        [VALUE, rest @ ..] => first_value(rest, value_bytes),
+        [NUMBER, rest @ ..] => first_number(rest),
         _ => None,
     }
 }

@@ -1,6 +1,6 @@
 -- What holds of each call of a request that is spelled.
 use Rattle.std.proofs.Common.{◌≡◌, ℕ, zero, suc, ◌-◌, ◌≤◌, ◌<◌, ◌^◌, Bool, true, false, cond, List, [], ◌∷◌, length, take, drop, refl, sym, ap, subst, arith, lit<, Option, Some, None}
-use Rattle.std.specs.Prelude.{All, ⊤, ◌&&◌, ◌||◌, ◌==◌, nat_le, nat_lt, codes}
+use Rattle.std.specs.Prelude.{All, ⊤, ◌&&◌, ◌||◌, ◌==◌, nat_le, nat_lt}
 use Rattle.std.specs.List.{list_all, flat_map}
 use Rattle.std.specs.Str.{bytes_eq}
 use Rattle.std.proofs.lemmas.Bool.Decides.{nat_tests}
@@ -16,16 +16,19 @@ use Rattle.mc_text.specs.declared.limits.Limits.{Limits}
 use Rattle.mc_text.specs.declared.commands.Command.{Command}
 use Rattle.mc_text.specs.declared.commands.Form.{Form}
 use Rattle.mc_text.specs.declared.commands.Form.TheVariants as forms
-use Rattle.mc_text.specs.Numbered.{okay, error, version_text, bad_line_format, bad_data_chunk, object_too_large, text_count}
+use Rattle.mc_model.specs.Texts.{okay_text, error_text, version_text, bad_line_format_text, bad_data_chunk_text, line_too_long_text, object_too_large_text, text_count}
 use Rattle.mc_text.specs.Words.{words, without_cr, arg}
-use Rattle.mc_text.specs.Fields.{is_key, exptime_of, has_words}
-use Rattle.mc_text.specs.Commands.{row, command_of}
+use Rattle.mc_text.specs.Bounds.{longest_block}
+use Rattle.mc_text.specs.Fields.{is_key, exptime_of, has_words, has_zero_words, is_zero_or_noreply, asks_noreply}
+use Rattle.mc_text.specs.Commands.{command_of, has_keys, IsReadVerb}
 use Rattle.mc_text.specs.Meaning.{Meaning, Quit, One, Each, Everywhere, key_calls, calls_of, is_closing, ends_connection}
-use Rattle.mc_text.specs.Lines.{LineMeaning, Ends, Wants, fixed, refused, having, field, some_words, block_for, storage, retrieval, version, verbosity, quit, by_form, by_command, words_say}
+use Rattle.mc_text.specs.Lines.{LineMeaning, Ends, Wants, fixed, having, field, some_words, block_for, storage, retrieval, deletion, version, verbosity, quit, by_form, by_command, words_say}
 use Rattle.mc_text.specs.Spells.{Spells, TooLong, OneLine, WithBlock, line_says, settled, finished}
 use Rattle.mc_text.specs.Stream.{Takes, requests, rest_of, up_to_end, own_calls}
-use Rattle.mc_text.specs.Fits.{HasKey, IsFit}
+use Rattle.mc_text.specs.Fits.{HasKey, HasReadFields, IsFit}
 use Rattle.mc_text.proofs.StreamLaws.{is_split}
+use Rattle.mc_text.proofs.NumberLaws.{number_within, exptime_within}
+use Rattle.mc_text.proofs.PublicCommands.{form_has_key, form_is_read, text_is_read}
 
 -- a call at a key stands at the bucket of its key
 pub placed_at_key : (buckets : ℕ) (verb : Verb) (key : List ℕ) (b : ℕ) → HasKey verb → b ≡ bucket_of_key buckets key → IsBucketOf buckets verb key b
@@ -54,39 +57,67 @@ placed_at_first buckets verb key v = let P : Verb → Type 0 = λ w. IsBucketOf 
 pub no_key : (verb : Verb) → verb ≡ verbs.Fixed → HasKey verb → ⊥
 no_key verb v h = let P : Verb → Type 0 = λ w. HasKey w in subst P v h
 
+-- a text has neither key nor block
+pub record IsText (c : Call) : Type 0 where
+  pub verb : c.verb ≡ verbs.Fixed
+  pub key : c.key ≡ []
+  pub block : c.block ≡ []
+  pub fields : HasReadFields c
+  pub text : c.text < text_count
+
+-- a call at keys, whatever its block is
+pub record IsKeyCall (c : Call) : Type 0 where
+  pub key : HasKey c.verb
+  pub fields : HasReadFields c
+  pub text : c.text < text_count
+
 -- some keys, each of its form
-abbrev AreKeys : List (List ℕ) → Type 0
+abbrev pub AreKeys : List (List ℕ) → Type 0
 AreKeys keys = (0 < length keys) × (list_all is_key keys ≡ true)
+
+-- they are words of the line
+abbrev pub AreWords : List (List ℕ) → List (List ℕ) → Type 0
+AreWords ws keys = (first : ℕ) × (count : ℕ) × (keys ≡ some_words ws first count)
 
 -- of a request, before its calls are placed
 abbrev Fits : Limits → Meaning → Type 0
 Fits l Quit = ⊤
-Fits l (One c closing) = (c.verb ≡ verbs.Fixed) × (length c.block ≤ l.value_bytes) × (c.text < text_count)
-Fits l (Each c keys) = HasKey c.verb × AreKeys keys × (length c.block ≤ l.value_bytes) × (c.text < text_count)
+Fits l (One c closing) = IsText c
+Fits l (Each c keys) = IsKeyCall c × AreKeys keys × (length c.block ≤ l.value_bytes)
 Fits l (Everywhere c) = ⊥
 
--- of a line
-abbrev LineFits : Limits → LineMeaning → Type 0
-LineFits l (Ends m) = Fits l m
-LineFits l (Wants c keys n) = HasKey c.verb × AreKeys keys × (c.text < text_count)
+-- of a line with these words
+abbrev pub LineFits : List (List ℕ) → LineMeaning → Type 0
+LineFits ws (Ends Quit) = ⊤
+LineFits ws (Ends (One c closing)) = IsText c
+LineFits ws (Ends (Each c keys)) = IsKeyCall c × AreKeys keys × AreWords ws keys × (c.block ≡ [])
+LineFits ws (Ends (Everywhere c)) = ⊥
+LineFits ws (Wants c keys n) = IsKeyCall c × AreKeys keys × AreWords ws keys
 
-refused_fits : (l : Limits) (text : ℕ) → text < text_count → LineFits l (refused text)
-refused_fits l text h = (refl, omega arith, h)
+text_fits : (ws : List (List ℕ)) (text : ℕ) (noreply closing : Bool) → text < text_count → LineFits ws (Ends (One (fixed text noreply) closing))
+text_fits ws text noreply closing h =
+    record {
+      verb = refl;
+      key = refl;
+      block = refl;
+      fields = record { verb = text_is_read; flags = lit< tt; exptime = lit< tt; unique = refl; value = refl };
+      text = h;
+    }
 
-having_fits : (l : Limits) (good : Bool) (text : ℕ) (s : LineMeaning) → text < text_count → (good ≡ true → LineFits l s) → LineFits l (having good text s)
-having_fits l true text s h f = f refl
-having_fits l false text s h f = refused_fits l text h
+having_fits : (ws : List (List ℕ)) (good : Bool) (text : ℕ) (s : LineMeaning) → text < text_count → (good ≡ true → LineFits ws s) → LineFits ws (having good text s)
+having_fits ws true text s h f = f refl
+having_fits ws false text s h f = text_fits ws text false false h
 
-field_fits : {A : Type 0} (l : Limits) (text : ℕ) (o : Option A) (f : A → LineMeaning) → text < text_count → ((x : A) → LineFits l (f x)) → LineFits l (field text o f)
-field_fits l text None f h g = refused_fits l text h
-field_fits l text (Some x) f h g = g x
+field_fits : {A : Type 0} (ws : List (List ℕ)) (text : ℕ) (o : Option A) (f : A → LineMeaning) → text < text_count → ((x : A) → o ≡ Some x → LineFits ws (f x)) → LineFits ws (field text o f)
+field_fits ws text None f h g = text_fits ws text false false h
+field_fits ws text (Some x) f h g = g x refl
 
-block_fits : (l : Limits) (c : Call) (keys : List (List ℕ)) (bytes : ℕ) → HasKey c.verb → AreKeys keys → c.text < text_count → LineFits l (block_for c keys bytes)
-block_fits l c keys bytes k e t = by_size (nat_le bytes 1048576)
+block_fits : (ws : List (List ℕ)) (c : Call) (keys : List (List ℕ)) (bytes : ℕ) → IsKeyCall c → AreKeys keys → AreWords ws keys → LineFits ws (block_for c keys bytes)
+block_fits ws c keys bytes k e from = by_size (nat_le bytes longest_block)
   where
-    by_size : (b : Bool) → LineFits l (cond b (Wants c keys bytes) (block_for c keys 1048577))
-    by_size true = (k, e, t)
-    by_size false = (refl, omega arith, lit< tt)
+    by_size : (b : Bool) → LineFits ws (cond b (Wants c keys bytes) (Ends (One (fixed object_too_large_text false) true)))
+    by_size true = (k, e, from)
+    by_size false = text_fits ws object_too_large_text false true (lit< tt)
 
 -- the one key of a line
 one_key : (ws : List (List ℕ)) → is_key (arg ws 1) ≡ true → AreKeys (some_words ws 1 1)
@@ -109,120 +140,138 @@ all-take zero (w ∷ ws) e = refl
 all-take (suc n) [] e = refl
 all-take (suc n) (w ∷ ws) e = let h = both (is_key w) (list_all is_key ws) e in simp (h.0, all-take n ws h.1)
 
-storage_fits : (l : Limits) (verb : Verb) (ws : List (List ℕ)) → HasKey verb → LineFits l (storage verb ws)
-unfolding storage
-storage_fits l verb ws h =
-    having_fits l (has_words ws 5) error _ (lit< tt) (λ w.
-    having_fits l (is_key (arg ws 1)) bad_line_format _ (lit< tt) (λ k.
-    field_fits l bad_line_format (number_upto (2 ^ 32 - 1) (arg ws 2)) _ (lit< tt) (λ flags.
-    field_fits l bad_line_format (exptime_of (arg ws 3)) _ (lit< tt) (λ e.
-    field_fits l bad_line_format (number_upto (2 ^ 32 - 1) (arg ws 4)) _ (lit< tt) (λ bytes.
-    let call = record (blank verb) { flags = flags; negative = e.0; exptime = e.1; noreply = nat_lt 5 (length ws) } in
-    block_fits l call (some_words ws 1 1) bytes h (one_key ws k) (lit< tt))))))
+-- a command whose lines have keys
+record IsKeyVerb (verb : Verb) : Type 0 where
+  key : HasKey verb
+  read : IsReadVerb verb
 
-retrieval_fits : (l : Limits) (verb : Verb) (ws : List (List ℕ)) → HasKey verb → LineFits l (retrieval verb ws)
+storage_fits : (verb : Verb) (ws : List (List ℕ)) → IsKeyVerb verb → LineFits ws (storage verb ws)
+unfolding storage
+storage_fits verb ws h =
+    having_fits ws (has_words ws 5) error_text _ (lit< tt) (λ w.
+    having_fits ws (is_key (arg ws 1)) bad_line_format_text _ (lit< tt) (λ k.
+    field_fits ws bad_line_format_text (number_upto (2 ^ 32 - 1) (arg ws 2)) _ (lit< tt) (λ flags small.
+    field_fits ws bad_line_format_text (exptime_of (arg ws 3)) _ (lit< tt) (λ e short.
+    field_fits ws bad_line_format_text (number_upto (2 ^ 32 - 1) (arg ws 4)) _ (lit< tt) (λ bytes few.
+    let low : flags ≤ 2 ^ 32 - 1 = number_within (2 ^ 32 - 1) (arg ws 2) flags small in
+    let soon : e.1 ≤ 2 ^ 63 - 1 = exptime_within (arg ws 3) e short in
+    block_fits ws (record (blank verb) { flags = flags; negative = e.0; exptime = e.1; noreply = nat_lt 5 (length ws) }) (some_words ws 1 1) bytes
+    (record { key = h.key; fields = record { verb = h.read; flags = omega arith; exptime = omega arith; unique = refl; value = refl }; text = lit< tt }) (one_key ws k) (1, 1, refl))))))
+
+-- a call with no field of its own
+blank_fits : (verb : Verb) (noreply : Bool) → IsKeyVerb verb → IsKeyCall (record (blank verb) { noreply = noreply })
+blank_fits verb noreply h = record { key = h.key; fields = record { verb = h.read; flags = lit< tt; exptime = lit< tt; unique = refl; value = refl }; text = lit< tt }
+
+retrieval_fits : (verb : Verb) (ws : List (List ℕ)) → IsKeyVerb verb → LineFits ws (retrieval verb ws)
 unfolding retrieval
-retrieval_fits l verb ws h =
-    having_fits l (nat_lt 1 (length ws)) error _ (lit< tt) (λ w.
-    having_fits l (list_all is_key (drop 1 ws)) bad_line_format (Ends (Each (blank verb) (some_words ws 1 (length ws - 1)))) (lit< tt) (λ k.
-    (h, (some_left (length ws) w refl, all-take (length ws - 1) (drop 1 ws) k), omega arith, lit< tt)))
+retrieval_fits verb ws h =
+    having_fits ws (nat_lt 1 (length ws)) error_text _ (lit< tt) (λ w.
+    having_fits ws (list_all is_key (drop 1 ws)) bad_line_format_text (Ends (Each (blank verb) (some_words ws 1 (length ws - 1)))) (lit< tt) (λ k.
+    (blank_fits verb false h, (some_left (length ws) w refl, all-take (length ws - 1) (drop 1 ws) k), (1, length ws - 1, refl), refl)))
   where
     some_left : (n : ℕ) → nat_lt 1 n ≡ true → length ws ≡ n → 0 < length (take (length ws - 1) (drop 1 ws))
     some_left n w e = let more : 1 < n = above n w in omega (arith, length-take (length ws - 1) (drop 1 ws), length-drop 1 ws)
 
-text_fits : (l : Limits) (text : ℕ) (noreply closing : Bool) → text < text_count → LineFits l (Ends (One (fixed text noreply) closing))
-text_fits l text noreply closing h = (refl, omega arith, h)
+deletion_fits : (verb : Verb) (ws : List (List ℕ)) → IsKeyVerb verb → LineFits ws (deletion verb ws)
+unfolding deletion
+deletion_fits verb ws h =
+    having_fits ws (has_zero_words ws 2) error_text _ (lit< tt) (λ w.
+    having_fits ws (is_zero_or_noreply ws 2) bad_line_format_text _ (lit< tt) (λ z.
+    having_fits ws (is_key (arg ws 1)) bad_line_format_text (Ends (Each (record (blank verb) { noreply = asks_noreply ws 2 }) (some_words ws 1 1))) (lit< tt) (λ k.
+    (blank_fits verb (asks_noreply ws 2) h, one_key ws k, (1, 1, refl), refl))))
 
-version_fits : (l : Limits) (ws : List (List ℕ)) → LineFits l (version ws)
+version_fits : (ws : List (List ℕ)) → LineFits ws (version ws)
 unfolding version
-version_fits l ws = having_fits l (length ws == 1) error (Ends (One (fixed version_text false) false)) (lit< tt) (λ w. text_fits l version_text false false (lit< tt))
+version_fits ws = having_fits ws (length ws == 1) error_text (Ends (One (fixed version_text false) false)) (lit< tt) (λ w. text_fits ws version_text false false (lit< tt))
 
-verbosity_fits : (l : Limits) (ws : List (List ℕ)) → LineFits l (verbosity ws)
+verbosity_fits : (ws : List (List ℕ)) → LineFits ws (verbosity ws)
 unfolding verbosity
-verbosity_fits l ws =
-    having_fits l (has_words ws 2) error _ (lit< tt) (λ w.
-    field_fits l bad_line_format (number_upto (2 ^ 32 - 1) (arg ws 1)) (λ n. Ends (One (fixed okay (nat_lt 2 (length ws))) false)) (lit< tt) (λ n.
-    text_fits l okay (nat_lt 2 (length ws)) false (lit< tt)))
+verbosity_fits ws =
+    having_fits ws (has_words ws 2) error_text _ (lit< tt) (λ w.
+    field_fits ws bad_line_format_text (number_upto (2 ^ 32 - 1) (arg ws 1)) (λ n. Ends (One (fixed okay_text (nat_lt 2 (length ws))) false)) (lit< tt) (λ n small.
+    text_fits ws okay_text (nat_lt 2 (length ws)) false (lit< tt)))
 
-quit_fits : (l : Limits) (ws : List (List ℕ)) → LineFits l (quit ws)
+quit_fits : (ws : List (List ℕ)) → LineFits ws (quit ws)
 unfolding quit
-quit_fits l ws = having_fits l (length ws == 1) error (Ends Quit) (lit< tt) (λ w. tt)
+quit_fits ws = having_fits ws (length ws == 1) error_text (Ends Quit) (lit< tt) (λ w. tt)
 
--- a command whose line has keys is one on keys
-abbrev FormFits : Form → Verb → Type 0
-FormFits forms.Storage verb = HasKey verb
-FormFits forms.Retrieval verb = HasKey verb
-FormFits forms.Version verb = ⊤
-FormFits forms.Verbosity verb = ⊤
-FormFits forms.Quit verb = ⊤
+form_fits : (form : Form) (verb : Verb) (ws : List (List ℕ)) → (has_keys form ≡ true → IsKeyVerb verb) → LineFits ws (by_form form verb ws)
+form_fits forms.Storage verb ws h = storage_fits verb ws (h refl)
+form_fits forms.Retrieval verb ws h = retrieval_fits verb ws (h refl)
+form_fits forms.Deletion verb ws h = deletion_fits verb ws (h refl)
+form_fits forms.Version verb ws h = version_fits ws
+form_fits forms.Verbosity verb ws h = verbosity_fits ws
+form_fits forms.Quit verb ws h = quit_fits ws
 
-abbrev CommandFits : Option Command → Type 0
-CommandFits None = ⊤
-CommandFits (Some c) = FormFits c.form c.verb
-
-either : (w name : List ℕ) (x y : Option Command) → CommandFits x → CommandFits y → CommandFits (cond (bytes_eq w name) x y)
-either w name x y h k = by_test (bytes_eq w name)
-  where
-    by_test : (b : Bool) → CommandFits (cond b x y)
-    by_test true = h
-    by_test false = k
-
-command_fits : (w : List ℕ) → CommandFits (command_of w)
-unfolding command_of
-command_fits w =
-    either w (codes "set") (row forms.Storage verbs.Set) _ tt (
-    either w (codes "get") (row forms.Retrieval verbs.Get) _ tt (
-    either w (codes "version") (row forms.Version verbs.Fixed) _ tt (
-    either w (codes "verbosity") (row forms.Verbosity verbs.Fixed) _ tt (
-    either w (codes "quit") (row forms.Quit verbs.Fixed) None tt tt))))
-
-form_fits : (l : Limits) (form : Form) (verb : Verb) (ws : List (List ℕ)) → FormFits form verb → LineFits l (by_form form verb ws)
-form_fits l forms.Storage verb ws h = storage_fits l verb ws h
-form_fits l forms.Retrieval verb ws h = retrieval_fits l verb ws h
-form_fits l forms.Version verb ws h = version_fits l ws
-form_fits l forms.Verbosity verb ws h = verbosity_fits l ws
-form_fits l forms.Quit verb ws h = quit_fits l ws
-
-line_fits : (l : Limits) (line : List ℕ) → LineFits l (line_says line)
+pub line_fits : (line : List ℕ) → LineFits (words (without_cr line)) (line_says line)
 unfolding line_says words_say
-line_fits l line = by_row (command_of (arg (words (without_cr line)) 0)) (command_fits (arg (words (without_cr line)) 0))
+line_fits line = by_row (command_of (arg (words (without_cr line)) 0)) refl
   where
-    by_row : (o : Option Command) → CommandFits o → LineFits l (by_command o (words (without_cr line)))
-    by_row None h = refused_fits l error (lit< tt)
-    by_row (Some c) h = form_fits l c.form c.verb (words (without_cr line)) h
+    by_row : (o : Option Command) → command_of (arg (words (without_cr line)) 0) ≡ o → LineFits (words (without_cr line)) (by_command o (words (without_cr line)))
+    by_row None e = text_fits (words (without_cr line)) error_text false false (lit< tt)
+    by_row (Some c) e = form_fits c.form c.verb (words (without_cr line)) (λ k. record { key = form_has_key (arg (words (without_cr line)) 0) c e k; read = form_is_read (arg (words (without_cr line)) 0) c e k })
 
-block_is_fit : (l : Limits) (c : Call) (keys : List (List ℕ)) (block ending : List ℕ) → LineFits l (Wants c keys (length block)) → Fits l (finished l c keys block ending)
+-- a line that is a whole request
+ended_fits : (l : Limits) (ws : List (List ℕ)) (m : Meaning) → LineFits ws (Ends m) → Fits l m
+ended_fits l ws Quit f = tt
+ended_fits l ws (One c closing) f = f
+ended_fits l ws (Each c keys) f = (f.0, f.1, rw f.3 (omega arith))
+ended_fits l ws (Everywhere c) f = f
+
+-- or one whose block follows
+block_is_fit : (l : Limits) (ws : List (List ℕ)) (c : Call) (keys : List (List ℕ)) (block ending : List ℕ) → LineFits ws (Wants c keys (length block)) → Fits l (finished l c keys block ending)
 unfolding finished
-block_is_fit l c keys block ending f = by_tests (bytes_eq ending (13 ∷ 10 ∷ [])) (nat_le (length block) l.value_bytes) refl
+block_is_fit l ws c keys block ending f = by_tests (bytes_eq ending (13 ∷ 10 ∷ [])) (nat_le (length block) l.value_bytes) refl
   where
     within : nat_le (length block) l.value_bytes ≡ true → length block ≤ l.value_bytes
     within e = grind (arith, nat_tests)
 
-    by_tests : (good small : Bool) → nat_le (length block) l.value_bytes ≡ small → Fits l (settled c keys block (cond good (cond small None (Some object_too_large)) (Some bad_data_chunk)))
-    by_tests true true e = (f.0, f.1, within e, f.2)
-    by_tests true false e = (refl, omega arith, lit< tt)
-    by_tests false small e = (refl, omega arith, lit< tt)
+    by_tests : (good small : Bool) → nat_le (length block) l.value_bytes ≡ small → Fits l (settled c keys block (cond good (cond small None (Some object_too_large_text)) (Some bad_data_chunk_text)))
+    by_tests true true e = (let r = f.0.fields in record { key = f.0.key; fields = record { verb = r.verb; flags = r.flags; exptime = r.exptime; unique = r.unique; value = r.value }; text = f.0.text }, f.1, within e)
+    by_tests true false e = text_fits ws object_too_large_text c.noreply false (lit< tt)
+    by_tests false small e = text_fits ws bad_data_chunk_text c.noreply false (lit< tt)
 
 spelled_fits : (l : Limits) (text : List ℕ) (m : Meaning) → Spells l text m → Fits l m
-spelled_fits l text m (TooLong long none is) = subst (Fits l) (sym is) (refl, omega arith, lit< tt)
-spelled_fits l text m (OneLine line is t e) = subst (LineFits l) e (line_fits l line)
-spelled_fits l text m (WithBlock line block ending c keys is t e two result) = subst (Fits l) (sym result) (block_is_fit l c keys block ending (subst (LineFits l) e (line_fits l line)))
+spelled_fits l text m (TooLong long none is) = subst (Fits l) (sym is) (text_fits [] line_too_long_text false true (lit< tt))
+spelled_fits l text m (OneLine line is t e) = ended_fits l (words (without_cr line)) m (subst (LineFits (words (without_cr line))) e (line_fits line))
+spelled_fits l text m (WithBlock line block ending c keys is t e two result) =
+    subst (Fits l) (sym result) (block_is_fit l (words (without_cr line)) c keys block ending (subst (LineFits (words (without_cr line))) e (line_fits line)))
 
-keys_fit : (l : Limits) (c : Call) (keys : List (List ℕ)) → 0 < l.buckets → HasKey c.verb → list_all is_key keys ≡ true → length c.block ≤ l.value_bytes → c.text < text_count → All (IsFit l) (key_calls l.buckets c keys)
-keys_fit l c [] some verb keys block text = All-nil (IsFit l)
-keys_fit l c (k ∷ ks) some verb keys block text =
+keys_fit : (l : Limits) (c : Call) (keys : List (List ℕ)) → 0 < l.buckets → IsKeyCall c → list_all is_key keys ≡ true → length c.block ≤ l.value_bytes → All (IsFit l) (key_calls l.buckets c keys)
+keys_fit l c [] some is keys block = All-nil (IsFit l)
+keys_fit l c (k ∷ ks) some is keys block =
     let each = both (is_key k) (list_all is_key ks) keys in
+    let r = is.fields in
     All-cons (IsFit l) _ _
-    (record { placed = placed_at_key l.buckets c.verb k (bucket_of_key l.buckets k) verb refl; bucket = mod-lt (fnv64 k) some; key = λ h. each.0; block = block; text = text })
-    (keys_fit l c ks some verb each.1 block text)
+    (record {
+      placed = placed_at_key l.buckets c.verb k (bucket_of_key l.buckets k) is.key refl;
+      bucket = mod-lt (fnv64 k) some;
+      key = λ h. each.0;
+      block = block;
+      text = is.text;
+      fields = record { verb = r.verb; flags = r.flags; exptime = r.exptime; unique = r.unique; value = r.value };
+      no_key = λ v. absurd (no_key c.verb v is.key);
+      no_block = λ v. absurd (no_key c.verb v is.key);
+    })
+    (keys_fit l c ks some is each.1 block)
 
 meaning_fits : (l : Limits) (m : Meaning) → 0 < l.buckets → Fits l m → All (IsFit l) (calls_of l.buckets m)
 unfolding calls_of
 meaning_fits l Quit some f = All-nil (IsFit l)
 meaning_fits l (One c closing) some f =
     All-cons (IsFit l) (record { bucket = 0; call = c }) []
-    (record { placed = placed_at_first l.buckets c.verb c.key f.0; bucket = some; key = λ h. absurd (no_key c.verb f.0 h); block = f.1; text = f.2 }) (All-nil (IsFit l))
-meaning_fits l (Each c keys) some f = keys_fit l c keys some f.0 f.1.1 f.2 f.3
+    (record {
+      placed = placed_at_first l.buckets c.verb c.key f.verb;
+      bucket = some;
+      key = λ h. absurd (no_key c.verb f.verb h);
+      block = rw f.block (omega arith);
+      text = f.text;
+      fields = f.fields;
+      no_key = λ v. f.key;
+      no_block = λ v. f.block;
+    })
+    (All-nil (IsFit l))
+meaning_fits l (Each c keys) some f = keys_fit l c keys some f.0 f.1.1 f.2
 meaning_fits l (Everywhere c) some f = absurd f
 
 -- each call of a request that is spelled

@@ -4,3 +4,9 @@ pub mod CallLaws
 pub mod FitLaws
 pub mod StreamLaws
 pub mod Worked
+pub mod TableLaws
+pub mod NumberLaws
+pub mod PublicCommands
+pub mod ByteLaws
+pub mod PublicCalls
+pub mod PublicRequests

@@ -1,26 +1,26 @@
 -- Lines and texts, computed.
 use Rattle.std.proofs.Common.{◌≡◌, ℕ, true, false, List, [], ◌∷◌, ◌++◌, refl, Some, None}
 use Rattle.std.specs.Prelude.{codes, replicate}
-use Rattle.mc_model.specs.declared.call.Verb.TheVariants.{Set, Get}
+use Rattle.mc_model.specs.declared.call.Verb.TheVariants.{Set, Get, Delete}
 use Rattle.mc_model.specs.Call.{blank}
 use Rattle.mc_model.specs.Texts.{line, text_line}
 use Rattle.mc_text.specs.declared.limits.Limits.{Limits}
-use Rattle.mc_text.specs.Numbered.{okay, error, version_text, bad_line_format, bad_data_chunk, line_too_long, object_too_large}
+use Rattle.mc_model.specs.Texts.{okay_text, error_text, version_text, bad_line_format_text, bad_data_chunk_text, line_too_long_text, object_too_large_text}
 use Rattle.mc_text.specs.Commands.{command_of}
 use Rattle.mc_text.specs.Words.{words}
 use Rattle.mc_text.specs.Meaning.{Quit, One, Each}
-use Rattle.mc_text.specs.Lines.{Ends, Wants, fixed, refused, words_say, storage, retrieval, version, verbosity, quit}
+use Rattle.mc_text.specs.Lines.{Ends, Wants, fixed, refused, words_say, storage, retrieval, deletion, version, verbosity, quit}
 use Rattle.mc_text.specs.Spells.{line_says, finished, too_long}
 use Rattle.mc_text.specs.Front.{front}
 use Rattle.mc_text.specs.Stream.{requests, rest_of, own_requests}
 
 -- the texts by their numbers
 
-okay_is : text_line okay ≡ line (codes "OK")
+okay_is : text_line okay_text ≡ line (codes "OK")
 unfolding text_line
 okay_is = refl
 
-error_is : text_line error ≡ line (codes "ERROR")
+error_is : text_line error_text ≡ line (codes "ERROR")
 unfolding text_line
 error_is = refl
 
@@ -28,19 +28,19 @@ version_text_is : text_line version_text ≡ line (codes "VERSION 1.0.0-sei")
 unfolding text_line
 version_text_is = refl
 
-bad_line_format_is : text_line bad_line_format ≡ line (codes "CLIENT_ERROR bad command line format")
+bad_line_format_is : text_line bad_line_format_text ≡ line (codes "CLIENT_ERROR bad command line format")
 unfolding text_line
 bad_line_format_is = refl
 
-bad_data_chunk_is : text_line bad_data_chunk ≡ line (codes "CLIENT_ERROR bad data chunk")
+bad_data_chunk_is : text_line bad_data_chunk_text ≡ line (codes "CLIENT_ERROR bad data chunk")
 unfolding text_line
 bad_data_chunk_is = refl
 
-line_too_long_is : text_line line_too_long ≡ line (codes "CLIENT_ERROR line too long")
+line_too_long_is : text_line line_too_long_text ≡ line (codes "CLIENT_ERROR line too long")
 unfolding text_line
 line_too_long_is = refl
 
-object_too_large_is : text_line object_too_large ≡ line (codes "SERVER_ERROR object too large for cache")
+object_too_large_is : text_line object_too_large_text ≡ line (codes "SERVER_ERROR object too large for cache")
 unfolding text_line
 object_too_large_is = refl
 
@@ -65,11 +65,32 @@ ended_cr : line_says (codes "get a b" ++ 13 ∷ []) ≡ Ends (Each (blank Get) (
 unfolding line_says words words_say command_of retrieval
 ended_cr = refl
 
+a_deletion : line_says (codes "delete a") ≡ Ends (Each (blank Delete) key)
+unfolding line_says words words_say command_of deletion
+a_deletion = refl
+
+deletion_with_zero : line_says (codes "delete a 0") ≡ Ends (Each (blank Delete) key)
+unfolding line_says words words_say command_of deletion
+deletion_with_zero = refl
+
+silent_deletion : line_says (codes "delete a noreply") ≡ Ends (Each (record (blank Delete) { noreply = true }) key)
+unfolding line_says words words_say command_of deletion
+silent_deletion = refl
+
+silent_deletion_with_zero : line_says (codes "delete a 0 noreply") ≡ Ends (Each (record (blank Delete) { noreply = true }) key)
+unfolding line_says words words_say command_of deletion
+silent_deletion_with_zero = refl
+
+-- whose key is `noreply`
+deletion_of_noreply : line_says (codes "delete noreply") ≡ Ends (Each (blank Delete) (codes "noreply" ∷ []))
+unfolding line_says words words_say command_of deletion
+deletion_of_noreply = refl
+
 the_version : line_says (codes "version") ≡ Ends (One (fixed version_text false) false)
 unfolding line_says words words_say command_of version
 the_version = refl
 
-a_verbosity : line_says (codes "verbosity 4294967295 noreply") ≡ Ends (One (fixed okay true) false)
+a_verbosity : line_says (codes "verbosity 4294967295 noreply") ≡ Ends (One (fixed okay_text true) false)
 unfolding line_says words words_say command_of verbosity
 a_verbosity = refl
 
@@ -79,49 +100,61 @@ a_quit = refl
 
 -- no word, or an unknown first word
 
-no_word : line_says (codes "  ") ≡ refused error
+no_word : line_says (codes "  ") ≡ refused error_text
 unfolding line_says words words_say command_of
 no_word = refl
 
-unknown_word : line_says (codes "SET a 0 0 1") ≡ refused error
+unknown_word : line_says (codes "SET a 0 0 1") ≡ refused error_text
 unfolding line_says words words_say command_of
 unknown_word = refl
 
 -- a number of words that the command does not have, before a bad key
 
-few_words : line_says (codes "get") ≡ refused error
+few_words : line_says (codes "get") ≡ refused error_text
 unfolding line_says words words_say command_of retrieval
 few_words = refl
 
-other_word : line_says (codes "set a 4294967296 0 2 norepl") ≡ refused error
+other_word : line_says (codes "set a 4294967296 0 2 norepl") ≡ refused error_text
 unfolding line_says words words_say command_of storage
 other_word = refl
 
-version_words : line_says (codes "version 1") ≡ refused error
+deletion_words : line_says (codes "delete a 0 0") ≡ refused error_text
+unfolding line_says words words_say command_of deletion
+deletion_words = refl
+
+version_words : line_says (codes "version 1") ≡ refused error_text
 unfolding line_says words words_say command_of version
 version_words = refl
 
-quit_words : line_says (codes "quit now") ≡ refused error
+quit_words : line_says (codes "quit now") ≡ refused error_text
 unfolding line_says words words_say command_of quit
 quit_words = refl
 
 -- a key or a number out of its form, before the size
 
-big_flags : line_says (codes "set a 4294967296 0 1048577") ≡ refused bad_line_format
+big_flags : line_says (codes "set a 4294967296 0 1048577") ≡ refused bad_line_format_text
 unfolding line_says words words_say command_of storage
 big_flags = refl
 
-long_key : line_says (codes "get a " ++ replicate 251 97) ≡ refused bad_line_format
+long_key : line_says (codes "get a " ++ replicate 251 97) ≡ refused bad_line_format_text
 unfolding line_says words words_say command_of retrieval
 long_key = refl
 
-no_number : line_says (codes "verbosity x") ≡ refused bad_line_format
+two_zeros : line_says (codes "delete a 00") ≡ refused bad_line_format_text
+unfolding line_says words words_say command_of deletion
+two_zeros = refl
+
+other_zero : line_says (codes "delete a 1 noreply") ≡ refused bad_line_format_text
+unfolding line_says words words_say command_of deletion
+other_zero = refl
+
+no_number : line_says (codes "verbosity x") ≡ refused bad_line_format_text
 unfolding line_says words words_say command_of verbosity
 no_number = refl
 
 -- a block that nobody could keep
 
-over_megabyte : line_says (codes "set a 0 0 1048577 noreply") ≡ Ends (One (fixed object_too_large false) true)
+over_megabyte : line_says (codes "set a 0 0 1048577 noreply") ≡ Ends (One (fixed object_too_large_text false) true)
 unfolding line_says words words_say command_of storage
 over_megabyte = refl
 
@@ -137,7 +170,7 @@ crlf = 13 ∷ 10 ∷ []
 abbrev stream : List ℕ
 stream = codes "set a 0 0 3 noreply" ++ crlf ++ codes "abcde" ++ crlf ++ codes "set a 0 0 3" ++ crlf ++ codes "abc" ++ crlf ++ codes "set a 0 0 2" ++ crlf ++ codes "xy" ++ crlf ++ codes "ge"
 
-stream_is : requests limits stream ≡ One (fixed bad_data_chunk true) false ∷ One (fixed error false) false ∷ One (fixed object_too_large false) false ∷ Each (record (blank Set) { block = codes "xy" }) key ∷ []
+stream_is : requests limits stream ≡ One (fixed bad_data_chunk_text true) false ∷ One (fixed error_text false) false ∷ One (fixed object_too_large_text false) false ∷ Each (record (blank Set) { block = codes "xy" }) key ∷ []
 unfolding requests front finished line_says words words_say command_of storage
 stream_is = refl
 
@@ -151,7 +184,7 @@ unfolding requests front line_says words words_say command_of quit version
 quit_ends = refl
 
 -- nor behind a closing refusal
-closing_ends : own_requests limits (codes "set a 0 0 1048577" ++ crlf ++ codes "version" ++ crlf) ≡ One (fixed object_too_large false) true ∷ []
+closing_ends : own_requests limits (codes "set a 0 0 1048577" ++ crlf ++ codes "version" ++ crlf) ≡ One (fixed object_too_large_text false) true ∷ []
 unfolding requests front line_says words words_say command_of storage version
 closing_ends = refl
 

@@ -1,21 +1,63 @@
--- The command words, each with the form of its line.
-use Rattle.std.specs.Prelude.{ℕ, List, Option, Some, None, codes, if◌then◌else◌}
+-- The commands that requests may ask for, in one list.
+use Rattle.std.specs.Prelude.{◌≡◌, ℕ, Bool, true, false, List, [], ◌∷◌, ◌++◌, Option, Some, None, codes, slice_get, map, if◌then◌else◌}
 use Rattle.std.specs.Str.{bytes_eq}
 use Rattle.mc_model.specs.declared.call.Verb.{Verb}
-use Rattle.mc_model.specs.declared.call.Verb.TheVariants.{Set, Get, Fixed}
+use Rattle.mc_model.specs.declared.call.Verb.TheVariants.{Set, Get, Delete, Fixed}
+use Rattle.mc_model.specs.Call.{verb_number}
 use Rattle.mc_text.specs.declared.commands.Command.{Command}
 use Rattle.mc_text.specs.declared.commands.Form.{Form}
-use Rattle.mc_text.specs.declared.commands.Form.TheVariants.{Storage, Retrieval, Version, Verbosity, Quit}
+use Rattle.mc_text.specs.declared.commands.Form.TheVariants.{Storage, Retrieval, Deletion, Version, Verbosity, Quit}
 
-abbrev pub row : Form → Verb → Option Command
-row form verb = Some (record { form = form; verb = verb })
+-- a command word, and what its lines are
+pub record Row : Type 0 where
+  pub word : List ℕ
+  pub command : Command
 
--- a command is one row
+abbrev pub row : List ℕ → Form → Verb → Row
+row word form verb = record { word = word; command = record { form = form; verb = verb } }
+
+-- a command is one row. Rows with keys stand in the order of their commands' numbers
+abbrev pub commands : List Row
+commands =
+    row (codes "set") Storage Set
+    ∷ row (codes "get") Retrieval Get
+    ∷ row (codes "delete") Deletion Delete
+    ∷ row (codes "version") Version Fixed
+    ∷ row (codes "verbosity") Verbosity Fixed
+    ∷ row (codes "quit") Quit Fixed
+    ∷ []
+
+abbrev pub command_in : List ℕ → List Row → Option Command
+command_in w [] = None
+command_in w (r ∷ rows) = if bytes_eq w r.word then Some r.command else command_in w rows
+
+-- the command with this word
 unfoldable pub command_of : List ℕ → Option Command
-command_of w =
-    if bytes_eq w (codes "set") then row Storage Set
-    else if bytes_eq w (codes "get") then row Retrieval Get
-    else if bytes_eq w (codes "version") then row Version Fixed
-    else if bytes_eq w (codes "verbosity") then row Verbosity Fixed
-    else if bytes_eq w (codes "quit") then row Quit Fixed
-    else None
+command_of w = command_in w commands
+
+-- lines of this form have keys, and a call of their row's command at each. Other lines have no call but a text
+abbrev pub has_keys : Form → Bool
+has_keys Storage = true
+has_keys Retrieval = true
+has_keys Deletion = true
+has_keys Version = false
+has_keys Verbosity = false
+has_keys Quit = false
+
+-- the commands of the rows with keys
+abbrev pub key_verbs : List Row → List Verb
+key_verbs [] = []
+key_verbs (r ∷ rows) = if has_keys r.command.form then r.command.verb ∷ key_verbs rows else key_verbs rows
+
+-- the commands of the calls of requests: those at keys, and the fixed text
+abbrev pub read_verbs : List Verb
+read_verbs = key_verbs commands ++ Fixed ∷ []
+
+-- and their numbers, in the same order
+abbrev pub read_numbers : List ℕ
+read_numbers = map verb_number read_verbs
+
+-- it is one of them
+pub record IsReadVerb (verb : Verb) : Type 0 where
+  pub place : ℕ
+  pub there : slice_get read_verbs place ≡ Some verb

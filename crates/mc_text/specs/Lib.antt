@@ -1,5 +1,4 @@
 pub mod Bounds
-pub mod Numbered
 pub mod Words
 pub mod Fields
 pub mod Commands

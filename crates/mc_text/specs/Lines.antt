@@ -6,12 +6,12 @@ use Rattle.mc_model.specs.declared.call.Verb.TheVariants.{Fixed}
 use Rattle.mc_model.specs.Call.{Call, blank}
 use Rattle.mc_model.specs.Numbers.{number_upto}
 use Rattle.mc_text.specs.Bounds.{longest_block}
-use Rattle.mc_text.specs.Numbered.{okay, error, version_text, bad_line_format, object_too_large}
+use Rattle.mc_model.specs.Texts.{okay_text, error_text, version_text, bad_line_format_text, object_too_large_text}
 use Rattle.mc_text.specs.Words.{arg}
 use Rattle.mc_text.specs.declared.commands.Command.{Command}
 use Rattle.mc_text.specs.declared.commands.Form.{Form}
 use Rattle.mc_text.specs.declared.commands.Form.TheVariants as forms
-use Rattle.mc_text.specs.Fields.{is_key, exptime_of, has_words}
+use Rattle.mc_text.specs.Fields.{is_key, exptime_of, has_words, has_zero_words, is_zero_or_noreply, asks_noreply}
 use Rattle.mc_text.specs.Commands.{command_of}
 use Rattle.mc_text.specs.Meaning.{Meaning, Quit, One, Each}
 
@@ -42,44 +42,51 @@ some_words ws first count = take count (drop first ws)
 
 -- a block that nobody could keep is not read
 abbrev pub block_for : Call → List (List ℕ) → ℕ → LineMeaning
-block_for c keys bytes = if nat_le bytes longest_block then Wants c keys bytes else Ends (One (fixed object_too_large false) true)
+block_for c keys bytes = if nat_le bytes longest_block then Wants c keys bytes else Ends (One (fixed object_too_large_text false) true)
 
 -- <command> <key> <flags> <exptime> <bytes> [noreply]
 unfoldable pub storage : Verb → List (List ℕ) → LineMeaning
 storage verb ws =
-    having (has_words ws 5) error (having (is_key (arg ws 1)) bad_line_format (
-    field bad_line_format (number_upto (2 ^ 32 - 1) (arg ws 2)) (λ flags.
-    field bad_line_format (exptime_of (arg ws 3)) (λ e.
-    field bad_line_format (number_upto (2 ^ 32 - 1) (arg ws 4)) (λ bytes.
+    having (has_words ws 5) error_text (having (is_key (arg ws 1)) bad_line_format_text (
+    field bad_line_format_text (number_upto (2 ^ 32 - 1) (arg ws 2)) (λ flags.
+    field bad_line_format_text (exptime_of (arg ws 3)) (λ e.
+    field bad_line_format_text (number_upto (2 ^ 32 - 1) (arg ws 4)) (λ bytes.
     block_for (record (blank verb) { flags = flags; negative = e.0; exptime = e.1; noreply = nat_lt 5 (length ws) }) (some_words ws 1 1) bytes)))))
 
 -- <command> <key>+
 unfoldable pub retrieval : Verb → List (List ℕ) → LineMeaning
 retrieval verb ws =
-    having (nat_lt 1 (length ws)) error (having (list_all is_key (drop 1 ws)) bad_line_format (
+    having (nat_lt 1 (length ws)) error_text (having (list_all is_key (drop 1 ws)) bad_line_format_text (
     Ends (Each (blank verb) (some_words ws 1 (length ws - 1)))))
+
+-- <command> <key> [0] [noreply]
+unfoldable pub deletion : Verb → List (List ℕ) → LineMeaning
+deletion verb ws =
+    having (has_zero_words ws 2) error_text (having (is_zero_or_noreply ws 2) bad_line_format_text (having (is_key (arg ws 1)) bad_line_format_text (
+    Ends (Each (record (blank verb) { noreply = asks_noreply ws 2 }) (some_words ws 1 1)))))
 
 -- version
 unfoldable pub version : List (List ℕ) → LineMeaning
-version ws = having (length ws == 1) error (Ends (One (fixed version_text false) false))
+version ws = having (length ws == 1) error_text (Ends (One (fixed version_text false) false))
 
 -- verbosity <n> [noreply]
 unfoldable pub verbosity : List (List ℕ) → LineMeaning
-verbosity ws = having (has_words ws 2) error (field bad_line_format (number_upto (2 ^ 32 - 1) (arg ws 1)) (λ n. Ends (One (fixed okay (nat_lt 2 (length ws))) false)))
+verbosity ws = having (has_words ws 2) error_text (field bad_line_format_text (number_upto (2 ^ 32 - 1) (arg ws 1)) (λ n. Ends (One (fixed okay_text (nat_lt 2 (length ws))) false)))
 
 -- quit
 unfoldable pub quit : List (List ℕ) → LineMeaning
-quit ws = having (length ws == 1) error (Ends Quit)
+quit ws = having (length ws == 1) error_text (Ends Quit)
 
 abbrev pub by_form : Form → Verb → List (List ℕ) → LineMeaning
 by_form forms.Storage verb ws = storage verb ws
 by_form forms.Retrieval verb ws = retrieval verb ws
+by_form forms.Deletion verb ws = deletion verb ws
 by_form forms.Version verb ws = version ws
 by_form forms.Verbosity verb ws = verbosity ws
 by_form forms.Quit verb ws = quit ws
 
 abbrev pub by_command : Option Command → List (List ℕ) → LineMeaning
-by_command None ws = refused error
+by_command None ws = refused error_text
 by_command (Some c) ws = by_form c.form c.verb ws
 
 -- by the first word; no word is no command

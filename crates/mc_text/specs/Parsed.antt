@@ -10,7 +10,7 @@ use Rattle.mc_text.specs.declared.parsed.Kind.TheVariants as kinds
 use Rattle.mc_text.specs.declared.parsed.Template.{Template}
 use Rattle.mc_text.specs.declared.parsed.ParsedLine.{ParsedLine}
 use Rattle.mc_text.specs.declared.parsed.ParsedLine.TheVariants as lines
-use Rattle.mc_text.specs.Numbered.{text_count}
+use Rattle.mc_model.specs.Texts.{text_count}
 use Rattle.mc_text.specs.Meaning.{Meaning, Quit, One, Each}
 use Rattle.mc_text.specs.Lines.{LineMeaning, Ends, Wants, some_words}
 use Rattle.mc_text.specs.Fits.{HasKey}

@@ -4,7 +4,7 @@ use Rattle.std.specs.Str.{bytes_eq}
 use Rattle.mc_model.specs.Call.{Call}
 use Rattle.mc_text.specs.declared.limits.Limits.{Limits}
 use Rattle.mc_text.specs.Bounds.{longest_line}
-use Rattle.mc_text.specs.Numbered.{bad_data_chunk, line_too_long, object_too_large}
+use Rattle.mc_model.specs.Texts.{bad_data_chunk_text, line_too_long_text, object_too_large_text}
 use Rattle.mc_text.specs.Words.{words, without_cr}
 use Rattle.mc_text.specs.Meaning.{Meaning, One, Each}
 use Rattle.mc_text.specs.Lines.{LineMeaning, Ends, Wants, words_say, fixed}
@@ -28,12 +28,12 @@ unfoldable pub line_says : List ℕ → LineMeaning
 line_says line = words_say (words (without_cr line))
 
 abbrev pub too_long : Meaning
-too_long = One (fixed line_too_long false) true
+too_long = One (fixed line_too_long_text false) true
 
 -- the text that refuses a block, if it is refused: by the two bytes behind it, and then by the limit
 abbrev pub block_refusal : Limits → List ℕ → List ℕ → Option ℕ
 block_refusal l block ending =
-    if bytes_eq ending (13 ∷ 10 ∷ []) then (if nat_le (length block) l.value_bytes then None else Some object_too_large) else Some bad_data_chunk
+    if bytes_eq ending (13 ∷ 10 ∷ []) then (if nat_le (length block) l.value_bytes then None else Some object_too_large_text) else Some bad_data_chunk_text
 
 abbrev pub settled : Call → List (List ℕ) → List ℕ → Option ℕ → Meaning
 settled c keys block None = Each (record c { block = block }) keys

@@ -1,6 +1,7 @@
-ghost use Rattle.std.specs.Prelude.{◌≡◌, Some};
+ghost use Rattle.std.specs.Prelude.{◌≡◌, IfSome};
 ghost use Rattle.std.specs.Str.{bytes_eq};
-ghost use Rattle.mc_text.specs.Commands.{row, command_of};
+ghost use Rattle.mc_text.specs.Commands.{command_of};
+ghost use Rattle.mc_text.specs.Fits.{KeyIfForm};
 
 use mc_model::Verb;
 
@@ -11,6 +12,8 @@ pub enum Form {
     Storage,
     /// One key or more.
     Retrieval,
+    /// A key, and perhaps a 0 without meaning.
+    Deletion,
     /// The word alone, answered by the version.
     Version,
     /// A number.
@@ -33,28 +36,29 @@ pub fn is(word: &[u8], name: &[u8]) -> bool
     word == name
 }
 
-fn row(form: Form, verb: Verb) -> Option<Command>
-    ensures { result ≡ row form verb }
-{
-    Some(Command { form, verb })
-}
+/// The commands: the word, the form of its lines, and the command of its calls.
+const COMMANDS: [(&str, Form, Verb); 6] = [
+    ("set", Form::Storage, Verb::Set),
+    ("get", Form::Retrieval, Verb::Get),
+    ("delete", Form::Deletion, Verb::Delete),
+    ("version", Form::Version, Verb::Fixed),
+    ("verbosity", Form::Verbosity, Verb::Fixed),
+    ("quit", Form::Quit, Verb::Fixed),
+];
 
 /// The command of a line's first word.
 #[tactic(auto, unfolding(crate::specs::Commands::command_of))]
 pub fn command_of(word: &[u8]) -> Option<Command>
-    ensures { result ≡ command_of word.now }
+    ensures value { result ≡ command_of word.now }
+    ensures key { IfSome result (λ c. KeyIfForm c.form c.verb) }
 {
-    if is(word, b"set") {
-        row(Form::Storage, Verb::Set)
-    } else if is(word, b"get") {
-        row(Form::Retrieval, Verb::Get)
-    } else if is(word, b"version") {
-        row(Form::Version, Verb::Fixed)
-    } else if is(word, b"verbosity") {
-        row(Form::Verbosity, Verb::Fixed)
-    } else if is(word, b"quit") {
-        row(Form::Quit, Verb::Fixed)
-    } else {
-        None
+    for (name, form, verb) in &COMMANDS {
+        if is(word, name.as_bytes()) {
+            return Some(Command {
+                form: *form,
+                verb: *verb,
+            });
+        }
     }
+    None
 }

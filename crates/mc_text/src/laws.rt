@@ -1,12 +1,13 @@
 //! Laws of the grammar, each the clause of a function that does nothing.
 
 ghost use Rattle.std.specs.Prelude.{◌≡◌, ℕ, ◌<◌, List, [], ◌++◌, ◌⊎◌, All};
+ghost use Rattle.mc_model.specs.Packed.{AreBytes};
 ghost use Rattle.mc_text.specs.declared.limits.Limits.{Limits};
 ghost use Rattle.mc_text.specs.Meaning.{Meaning, calls_of};
 ghost use Rattle.mc_text.specs.Spells.{Spells, Completed};
 ghost use Rattle.mc_text.specs.Reads.{BeginsSome};
 ghost use Rattle.mc_text.specs.Stream.{Splits, IsPrefixOf, requests, rest_of, own_calls};
-ghost use Rattle.mc_text.specs.Fits.{IsFit};
+ghost use Rattle.mc_text.specs.Fits.{IsFit, HasBytes};
 
 /// No spelling is a proper prefix of another, and a text spells one request.
 pub fn one_spelling()
@@ -29,8 +30,11 @@ pub fn any_cut()
     ensures own { (l : Limits) (a b : List ℕ) → IsPrefixOf (own_calls l a) (own_calls l (a ++ b)) }
 {}
 
-/// What holds of each call of a request that is spelled.
+/// What holds of each call of a request that is spelled. If the request is bytes, so are the key
+/// and the block of each of its calls.
 pub fn calls_fit()
-    ensures { (l : Limits) (text : List ℕ) (m : Meaning)
+    ensures fit { (l : Limits) (text : List ℕ) (m : Meaning)
         → 0 < l.buckets → Spells l text m → All (IsFit l) (calls_of l.buckets m) }
+    ensures bytes { (l : Limits) (text : List ℕ) (m : Meaning)
+        → AreBytes text → Spells l text m → All HasBytes (calls_of l.buckets m) }
 {}

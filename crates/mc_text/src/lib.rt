@@ -14,7 +14,6 @@ mod reader;
 mod request;
 #[cfg(test)]
 mod tests;
-mod texts;
 mod words;
 
 pub use cursor::Cursor;

@@ -3,18 +3,21 @@
 ghost use Rattle.std.specs.Prelude.{◌≡◌, ◌<◌, ◌≤◌, ◌^◌, length, []};
 ghost use Rattle.mc_model.specs.Views.{call_with};
 ghost use Rattle.mc_text.specs.Words.{words};
-ghost use Rattle.mc_text.specs.Numbered.{text_count};
+ghost use Rattle.mc_model.specs.Texts.{text_count};
 ghost use Rattle.mc_text.specs.Meaning.{One};
-ghost use Rattle.mc_text.specs.Lines.{Ends, fixed, refused, block_for, some_words, storage, retrieval, version, verbosity, quit, words_say};
+ghost use Rattle.mc_text.specs.Lines.{Ends, fixed, refused, block_for, some_words, storage, retrieval, deletion, version, verbosity, quit, words_say};
 ghost use Rattle.mc_text.specs.Fits.{HasKey};
 ghost use Rattle.mc_text.specs.Parsed.{line_meaning_of, IsParsedOf};
 
 use crate::commands::{Form, command_of};
-use crate::fields::{all_keys, exptime_of, has_words, is_key, word_bytes};
+use crate::fields::{
+    all_keys, asks_noreply, exptime_of, has_words, has_zero_words, is_key, is_zero_or_noreply,
+    word_bytes,
+};
 use crate::limits::LONGEST_BLOCK;
 use crate::parsed::{Kind, ParsedLine, Template, blank};
-use crate::texts::{BAD_LINE_FORMAT, ERROR, OBJECT_TOO_LARGE, OKAY, VERSION};
 use crate::words::{behind_words, count};
+use mc_model::texts::{BAD_LINE_FORMAT, ERROR, OBJECT_TOO_LARGE, OKAY, VERSION};
 use mc_model::{CallSpan, Verb, number_upto};
 
 /// The greatest number in flags, in the size of a block and in a verbosity.
@@ -123,6 +126,34 @@ fn retrieval(line: &[u8], verb: Verb) -> ParsedLine
     })
 }
 
+#[tactic(auto, unfolding(crate::specs::Lines::deletion))]
+fn deletion(line: &[u8], verb: Verb) -> ParsedLine
+    requires { HasKey verb }
+    ensures meaning { line_meaning_of (words line.now) result ≡ deletion verb (words line.now) }
+    ensures parsed { IsParsedOf (words line.now) result }
+{
+    if !has_zero_words(line, 2) {
+        return refused(line, ERROR);
+    }
+    if !is_zero_or_noreply(line, 2) {
+        return refused(line, BAD_LINE_FORMAT);
+    }
+    if !is_key(word_bytes(line, 1)) {
+        return refused(line, BAD_LINE_FORMAT);
+    }
+    let call = CallSpan {
+        noreply: asks_noreply(line, 2),
+        ..blank(verb)
+    };
+    ParsedLine::Ends(Template {
+        kind: Kind::Each,
+        call,
+        first: 1,
+        count: 1,
+        closing: false,
+    })
+}
+
 #[tactic(auto, unfolding(crate::specs::Lines::version))]
 fn version(line: &[u8]) -> ParsedLine
     ensures meaning { line_meaning_of (words line.now) result ≡ version (words line.now) }
@@ -167,7 +198,7 @@ fn quit(line: &[u8]) -> ParsedLine
 }
 
 /// What a line asks for; its line end, a CR too, is not part of it.
-#[tactic(auto, unfolding(crate::specs::Lines::words_say, crate::specs::Commands::command_of))]
+#[tactic(auto, unfolding(crate::specs::Lines::words_say))]
 pub fn parse_line(line: &[u8]) -> ParsedLine
     ensures meaning { line_meaning_of (words line.now) result ≡ words_say (words line.now) }
     ensures parsed { IsParsedOf (words line.now) result }
@@ -178,6 +209,7 @@ pub fn parse_line(line: &[u8]) -> ParsedLine
     match command.form {
         Form::Storage => storage(line, command.verb),
         Form::Retrieval => retrieval(line, command.verb),
+        Form::Deletion => deletion(line, command.verb),
         Form::Version => version(line),
         Form::Verbosity => verbosity(line),
         Form::Quit => quit(line),

@@ -1,7 +1,7 @@
 ghost use Rattle.std.specs.Prelude.{◌≡◌, ℕ, ◌<◌, ◌≤◌, List, length, take, IfSome, IfNone};
 ghost use Rattle.std.specs.Option.{option_map};
 ghost use Rattle.mc_text.specs.Bounds.{longest_line};
-ghost use Rattle.mc_text.specs.Numbered.{text_count};
+ghost use Rattle.mc_model.specs.Texts.{text_count};
 ghost use Rattle.mc_text.specs.Words.{words};
 ghost use Rattle.mc_text.specs.Meaning.{Meaning, One};
 ghost use Rattle.mc_text.specs.Lines.{fixed};
@@ -17,8 +17,8 @@ use crate::limits::{LONGEST_LINE, Limits};
 use crate::lines::parse_line;
 use crate::parsed::{Kind, ParsedLine, Template, blank, no_span};
 use crate::request::Request;
-use crate::texts::{BAD_DATA_CHUNK, LINE_TOO_LONG, OBJECT_TOO_LARGE};
 use crate::words::line_end;
+use mc_model::texts::{BAD_DATA_CHUNK, LINE_TOO_LONG, OBJECT_TOO_LARGE};
 use mc_model::{CallSpan, Span, Verb};
 use memchr::memchr;
 

@@ -3,7 +3,7 @@
 ghost use Rattle.std.specs.Prelude.{◌<◌, length};
 
 use super::*;
-use crate::texts::{
+use mc_model::texts::{
     BAD_DATA_CHUNK, BAD_LINE_FORMAT, ERROR, LINE_TOO_LONG, OBJECT_TOO_LARGE, OKAY, VERSION,
 };
 use mc_model::{CallSpan, Span, Verb};
@@ -90,6 +90,18 @@ fn gives_the_call_of_a_set(rt: HostRuntime) {
 }
 
 #[test]
+fn gives_the_call_of_a_delete(rt: HostRuntime) {
+    let call = first_call(b"delete key 0 noreply\r\n").expect(&rt, "a call");
+    assert_eq!(rt;
+        (call.verb, call.key, call.bucket),
+        (Verb::Delete, Span { from: 7, to: 10 }, 2)
+    );
+    assert_eq!(rt; (call.last, call.noreply), (true, true));
+    let call = first_call(b"delete key 0\r\n").expect(&rt, "a call");
+    assert_eq!(rt; (call.last, call.noreply), (true, false));
+}
+
+#[test]
 fn walks_over_the_keys(rt: HostRuntime) {
     let [one, two, three] = three_calls(b"get a  bb ccc\n").expect(&rt, "each call");
     assert_eq!(rt;
@@ -106,7 +118,7 @@ fn walks_over_the_keys(rt: HostRuntime) {
     );
 }
 
-const SHORT: [(&str, Outcome); 25] = [
+const SHORT: [(&str, Outcome); 37] = [
     ("get", Outcome::More),
     (
         "set key 5 -60 5\r\nvalue\r\nget key\r\n",
@@ -119,6 +131,21 @@ const SHORT: [(&str, Outcome); 25] = [
     ("GET a\r\n", Outcome::Text(7, ERROR)),
     ("  get   a  \r\n", Outcome::Calls(13, 1)),
     ("get a b\nget c\n", Outcome::Calls(8, 2)),
+    ("delete\r\n", Outcome::Text(8, ERROR)),
+    ("delete a\r\n", Outcome::Calls(10, 1)),
+    ("delete a 0\r\n", Outcome::Calls(12, 1)),
+    ("delete a noreply\r\n", Outcome::Calls(18, 1)),
+    ("delete a 0 noreply\r\n", Outcome::Calls(20, 1)),
+    ("delete noreply\r\n", Outcome::Calls(16, 1)),
+    ("delete a 00\r\n", Outcome::Text(13, BAD_LINE_FORMAT)),
+    ("delete a 1 noreply\r\n", Outcome::Text(20, BAD_LINE_FORMAT)),
+    (
+        "delete a noreply noreply\r\n",
+        Outcome::Text(26, BAD_LINE_FORMAT),
+    ),
+    ("delete a 0 0\r\n", Outcome::Text(14, ERROR)),
+    ("delete a 1 2\r\n", Outcome::Text(14, ERROR)),
+    ("delete a 0 noreply b\r\n", Outcome::Text(22, ERROR)),
     ("version\n", Outcome::Text(8, VERSION)),
     ("version 1\n", Outcome::Text(10, ERROR)),
     (

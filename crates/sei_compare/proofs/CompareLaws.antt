@@ -9,6 +9,7 @@ use Rattle.std.specs.declared.result.Result.TheVariants.{Ok}
 use Rattle.sei_code.specs.Codes.{message_code}
 use Rattle.sei_fault.specs.declared.cause.AbortCause.{AbortCause}
 use Rattle.sei_fault.specs.Tree.{honest}
+use Rattle.sei_log.specs.Changes.{change_of}
 use Rattle.sei_log.specs.declared.log.Change.{Change}
 use Rattle.sei_compare.specs.Comparing.{same_change, word_read, word_at, word_is, word_outcome, same_code, same_reply, is_message}
 
@@ -25,9 +26,6 @@ same_number x = (Decides-eqb x x).1 refl
 
 same_bytes : (xs : List ℕ) → bytes_eq xs xs ≡ true
 same_bytes xs = (bytes_eq-Decides xs xs).1 refl
-
-abbrev change_of : ℕ → ℕ → ℕ → Change
-change_of address was becomes = record { address = address; was = was; becomes = becomes }
 
 -- changes with equal fields are equal
 same_fields : (a b : Change) → a.address ≡ b.address → a.was ≡ b.was → a.becomes ≡ b.becomes → a ≡ b

@@ -28,3 +28,8 @@ always gives P (Ask q k) c d x p (a, m, g, r) = always gives P (k a) m d x (p a)
 pub always_honest : {R : Type 0} (P : R → Type 0) (t : Tree R) → Always P t → P (honest t)
 always_honest P (Done r) p = p
 always_honest P (Ask q k) p = always_honest P (k (honestly_to q)) (p (honestly_to q))
+
+-- and so does what follows from it
+pub always_map : {R : Type 0} (P Q : R → Type 0) (t : Tree R) → ((x : R) → P x → Q x) → Always P t → Always Q t
+always_map P Q (Done r) h p = h r p
+always_map P Q (Ask q k) h p = λ a. always_map P Q (k a) h (p a)

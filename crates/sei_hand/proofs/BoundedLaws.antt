@@ -1,5 +1,5 @@
 -- An answer leaves a bucket whose numbers are of 64 bits.
-use Rattle.std.proofs.Common.{◌≡◌, ℕ, ◌+◌, ◌-◌, ◌^◌, ◌<◌, Bool, true, false, cond, List, [], ◌∷◌, length, subst, arith, max, min, Option, Some, None}
+use Rattle.std.proofs.Common.{ℕ, ◌+◌, ◌-◌, ◌^◌, ◌<◌, Bool, true, false, cond, List, [], ◌∷◌, length, arith, max, min, Option, Some, None}
 use Rattle.std.specs.Prelude.{All, IfSome, nat_lt, nat_le, ◌==◌}
 use Rattle.std.specs.Str.{bytes_eq}
 use Rattle.std.proofs.lemmas.List.Elements.{All-nil, All-cons, All-head, All-tail, All-filter}
@@ -12,23 +12,16 @@ use Rattle.mc_model.specs.declared.outcome.Change.TheVariants.{Keep, Put, Draw, 
 use Rattle.mc_model.specs.Answer.{answer, items_after, counter_after, bucket_after, outcome_in, seen_in}
 use Rattle.mc_model.specs.Bucket.{Item, Entries, Bucket, lookup, put, without, purged, arrived, is_live}
 use Rattle.mc_model.specs.Call.{Call}
-use Rattle.mc_model.specs.Items.{expiry_of, item_of_call, item_with_value, item_with_expiry}
+use Rattle.mc_model.specs.Items.{thirty_days, expiry_of, item_of_call, item_with_value, item_with_expiry}
 use Rattle.mc_model.specs.Outcome.{Outcome, outcome_of, adding, comparing, joining, counting}
-use Rattle.sei_hand.specs.Bounded.{HasNumbersOf64, IsBounded}
+use Rattle.tab_find.specs.Answers.{HasNumbersOf64, IsBounded}
+use Rattle.tab_find.proofs.PublicFinding.{numbered_lookup}
 
 -- the numbers of an entry's item
 abbrev HasNumbers : List ℕ × Item → Type 0
 HasNumbers e = HasNumbersOf64 e.1
 
 -- The entries behind each change.
-
-numbered_lookup : (key : List ℕ) (es : Entries) → All HasNumbers es → IfSome (lookup key es) HasNumbersOf64
-numbered_lookup key [] h = tt
-numbered_lookup key (e ∷ es) h = by_test (bytes_eq key e.0) (numbered_lookup key es (All-tail HasNumbers e es h))
-  where
-    by_test : (t : Bool) → IfSome (lookup key es) HasNumbersOf64 → IfSome (cond t (Some e.1) (lookup key es)) HasNumbersOf64
-    by_test true more = All-head HasNumbers e es h
-    by_test false more = more
 
 numbered_put : (key : List ℕ) (x : Item) (es : Entries) → HasNumbersOf64 x → All HasNumbers es → All HasNumbers (put key x es)
 numbered_put key x [] p h = All-cons HasNumbers (key, x) [] p h
@@ -46,18 +39,10 @@ numbered_without key (e ∷ es) h = by_test (bytes_eq key e.0) (numbered_without
     by_test true more = All-tail HasNumbers e es h
     by_test false more = All-cons HasNumbers e (without key es) (All-head HasNumbers e es h) more
 
--- the item at a key
-pub item_numbered : (b : Bucket) (key : List ℕ) (x : Item) → IsBounded b → lookup key b.items ≡ Some x → HasNumbersOf64 x
-item_numbered b key x h is = subst_some (lookup key b.items) is (numbered_lookup key b.items h.items)
-  where
-    subst_some : (o : Option Item) → o ≡ Some x → IfSome o HasNumbersOf64 → HasNumbersOf64 x
-    subst_some None e p = absurd (cc)
-    subst_some (Some y) e p = let same : y ≡ x = cc in subst HasNumbersOf64 same p
-
 -- The items that calls make.
 
 expiry_small : (m : ℕ) (n : Bool) (x : ℕ) → x < 2 ^ 64 → expiry_of m n x < 2 ^ 64
-expiry_small m n x lt = by_test (x == 0) n (nat_le x 2592000)
+expiry_small m n x lt = by_test (x == 0) n (nat_le x thirty_days)
   where
     by_test : (z n l : Bool) → cond z 0 (cond n 1 (cond l (min (m + x) (2 ^ 64 - 1)) x)) < 2 ^ 64
     by_test true n l = omega arith

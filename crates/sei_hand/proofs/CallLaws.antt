@@ -1,17 +1,20 @@
 -- The input words of a call that was read are those of the call.
-use Rattle.std.proofs.Common.{◌≡◌, ◌≢◌, ℕ, ◌+◌, ◌-◌, ◌<◌, ◌≤◌, List, [], ◌++◌, length, refl, ap, ◌∙◌, arith}
+use Rattle.std.proofs.Common.{◌≡◌, ◌≢◌, ℕ, ◌+◌, ◌-◌, ◌<◌, ◌≤◌, inl, inr, List, [], ◌++◌, length, refl, ap, ◌∙◌, arith}
 use Rattle.std.specs.Prelude.{slice_index, replicate}
 use Rattle.std.proofs.lemmas.List.{get_or_append_left, get_or-append-add}
 use Rattle.mc_model.specs.declared.geometry.Geometry.{Geometry}
 use Rattle.mc_model.specs.declared.call.Verb.{Verb}
-use Rattle.mc_model.specs.declared.call.Verb.TheVariants.{Set, Add, Replace, Append, Prepend, Cas, Get, Gets, Gat, Gats, Touch, Delete, Incr, Decr, Flush, Fixed}
+use Rattle.mc_model.specs.declared.call.Verb.TheVariants.{Flush, Fixed}
 use Rattle.mc_model.specs.Call.{Call, Placed}
 use Rattle.mc_model.specs.Packed.{pack}
-use Rattle.mc_model.proofs.PackLaws.{length_pack}
+use Rattle.mc_model.proofs.PublicPacking.{length_pack}
+use Rattle.mc_text.specs.Commands.{IsReadVerb}
+use Rattle.mc_text.specs.Fits.{HasKey, HasBytes}
+use Rattle.mc_text.proofs.PublicCommands.{read_has_key}
 use Rattle.sei_code.specs.Codes.{fnv64}
 use Rattle.tab_find.specs.Calls.{IsCall}
 use Rattle.sei_hand.specs.InputWords.{field_words, filled_up, key_words, hash_word, input_words}
-use Rattle.sei_hand.specs.ReadCall.{IsReadCall, IsReadVerb, HasBytes}
+use Rattle.sei_hand.specs.ReadCall.{IsReadCall}
 use Rattle.sei_hand.proofs.InputLaws.{length_filled_up, length_input_words}
 
 -- a field
@@ -41,36 +44,19 @@ at_block g c j lt few =
     ∙ get_or-append-add key (filled_up g.value_words block) j 0
     ∙ get_or_append_left block (replicate (g.value_words - length block) 0) 0 j lt
 
--- the commands that requests have
-pub data ReadVerb (v : Verb) : Type 0 where
-  ReadSet : v ≡ Set → ReadVerb v
-  ReadGet : v ≡ Get → ReadVerb v
-  ReadText : v ≡ Fixed → ReadVerb v
+-- a command on a key has the key's hash
+own_hash : (v : Verb) (key : List ℕ) → HasKey v → hash_word v key ≡ fnv64 key
+own_hash Flush key keyed = absurd keyed
+own_hash Fixed key keyed = absurd keyed
+own_hash v key keyed = refl
 
-pub read_verb : (v : Verb) → IsReadVerb v → ReadVerb v
-read_verb Set read = ReadSet refl
-read_verb Add read = absurd read
-read_verb Replace read = absurd read
-read_verb Append read = absurd read
-read_verb Prepend read = absurd read
-read_verb Cas read = absurd read
-read_verb Get read = ReadGet refl
-read_verb Gets read = absurd read
-read_verb Gat read = absurd read
-read_verb Gats read = absurd read
-read_verb Touch read = absurd read
-read_verb Delete read = absurd read
-read_verb Incr read = absurd read
-read_verb Decr read = absurd read
-read_verb Flush read = absurd read
-read_verb Fixed read = ReadText refl
+hash_is : (v : Verb) (key : List ℕ) → IsReadVerb v → (v ≡ Fixed → key ≡ []) → key ≢ [] → hash_word v key ≡ fnv64 key
+hash_is v key read none some = elim (read_has_key v read) [
+  | inl keyed ↦ own_hash v key keyed
+  | inr text ↦ absurd (some (none text))
+]
 
-hash_is : (v : Verb) (key : List ℕ) → ReadVerb v → (v ≡ Fixed → key ≡ []) → key ≢ [] → hash_word v key ≡ fnv64 key
-hash_is v key (ReadSet is) none some = ap (λ w. hash_word w key) is
-hash_is v key (ReadGet is) none some = ap (λ w. hash_word w key) is
-hash_is v key (ReadText is) none some = absurd (some (none is))
-
-pub is_call : (g : Geometry) (p : Placed) → IsReadCall g p → HasBytes p → IsCall g (input_words g p.call) p.call
+pub is_call : (g : Geometry) (p : Placed) → IsReadCall g p → HasBytes p → IsCall (input_words g p.call) p.call
 is_call g p r b =
     let c = p.call in
     let input = input_words g c in
@@ -81,18 +67,17 @@ is_call g p r b =
       key = λ some. record {
         room = omega (arith, long);
         key_length = at_field g c 1 (omega arith);
-        hash = at_field g c 2 (omega arith) ∙ hash_is c.verb c.key (read_verb c.verb r.fields.verb) r.no_key some;
+        hash = at_field g c 2 (omega arith) ∙ hash_is c.verb c.key r.fields.verb r.no_key some;
         key_words = at_field g c 12 (omega arith);
         bytes = b.key;
         fits = omega (arith, r.key);
         words = λ j lt. at_key g c j lt few;
       };
       block = record {
-        room = omega (arith, long);
+        room = omega (arith, long, r.block);
         block_length = at_field g c 8 (omega arith);
         block_words = at_field g c 13 (omega arith);
         bytes = b.block;
-        fits = omega (arith, r.block);
         words = λ j lt. at_block g c j lt few;
       };
       flags = at_field g c 3 (omega arith);

@@ -1,107 +1,121 @@
--- What the dispatch on the command does.
-use Rattle.std.proofs.Common.{◌≡◌, ℕ, ◌+◌, ◌-◌, ◌*◌, ◌<◌, ◌≤◌, List, [], ◌∷◌, refl, sym, ap, ◌∙◌, arith}
-use Rattle.std.specs.Prelude.{slice_index, true}
+-- What the choice among the commands does: each command of requests has its program, which answers.
+use Rattle.std.proofs.Common.{◌≡◌, ◌≢◌, ℕ, suc, ◌+◌, ◌-◌, ◌*◌, ◌^◌, ◌<◌, ◌≤◌, List, [], length, Some, refl, sym, ap, ◌∙◌, subst, arith}
+use Rattle.std.specs.Prelude.{slice_get}
 use Rattle.mc_model.specs.declared.geometry.Geometry.{Geometry}
-use Rattle.mc_model.specs.declared.call.Verb.TheVariants.{Get}
+use Rattle.mc_model.specs.declared.call.Verb.{Verb}
 use Rattle.mc_model.specs.Bucket.{Bucket}
-use Rattle.mc_model.specs.Call.{Call}
+use Rattle.mc_model.specs.Call.{Call, verb_number}
+use Rattle.mc_text.specs.Commands.{IsReadVerb}
+use Rattle.mc_text.specs.Fits.{HasKey}
+use Rattle.mc_text.proofs.PublicCommands.{read_verb_is}
 use Rattle.sei_stmt.specs.Order.{timed, is_parsed}
-use Rattle.sei_stmt.specs.Runs.{Given, RunState, tick, write}
-use Rattle.sei_stmt.specs.declared.stmt.Stmt.TheVariants.{Const}
-use Rattle.sei_stmt.specs.Programs.{Prog, Block, Seq, IfEq, Ends, IsParsed}
-use Rattle.sei_stmt.specs.Touch.{anything, within}
-use Rattle.sei_stmt.proofs.FrameLaws.{then_so}
-use Rattle.tab_find.specs.Calls.{verb_number}
-use Rattle.tab_find.proofs.MachineLaws.{word_is}
-use Rattle.sei_hand.specs.Bounded.{IsBuilt}
-use Rattle.sei_hand.specs.Bounded.IsBuilt.{OfSet, OfGet, OfText}
-use Rattle.sei_hand.specs.Commands.{set_program, get_program, fixed_program, dispatch}
-use Rattle.sei_hand.proofs.Shared.{CanAnswer, HasBegun, Answered}
-use Rattle.sei_hand.proofs.FixedEnds.{fixed_answers}
-use Rattle.sei_hand.proofs.GetEnds.{get_answers}
-use Rattle.sei_hand.proofs.KeyLaws.{has_key, get_keyed}
-use Rattle.sei_hand.proofs.SetEnds.{set_answers, answered_tick}
+use Rattle.sei_stmt.specs.Runs.{Given, RunState, tick}
+use Rattle.sei_stmt.specs.Programs.{Prog, Seq, Ends, HasWord}
+use Rattle.sei_stmt.proofs.PublicPrograms.{Chosen, halves_ends}
+use Rattle.tab_find.specs.Answers.{CanAnswer, HasConstants, HasBegun, Answered}
+use Rattle.tab_find.specs.Inputs.{verb_index, noreply_index}
+use Rattle.tab_find.specs.Registers.{r_zero, r_moment, r_one, r_expiry_offset, r_width, r_end, r_verb, r_noreply, r_number}
+use Rattle.tab_find.proofs.PublicAnswers.{input_word}
+use Rattle.tab_store.proofs.PublicStore.{set_answers}
+use Rattle.tab_read.proofs.PublicRead.{get_answers, delete_answers, fixed_answers}
+use Rattle.sei_hand.specs.Commands.{rows, program_in, programs, load_marks, dispatch}
+use Rattle.sei_hand.specs.Served.{IsOffered}
 
--- the words, the constants and the stage behind the moment
-pub record Timed (ws : List ℕ) (b : Bucket) (words : List ℕ) (stage floor stores emitted : ℕ) (out : List ℕ) (r0 r1 r2 : ℕ) : Type 0 where
-  pub same : words ≡ ws
-  pub time : stage ≡ timed
-  pub low : floor ≤ 1
-  pub few : stores ≤ 1
-  pub silent : emitted ≡ 0
-  pub empty : out ≡ []
-  pub none : r0 ≡ 0
-  pub moment : r1 ≡ b.moment
-  pub one : r2 ≡ 1
+-- from where a command begins, the program answers each call of this command
+abbrev AnswersCalls : Verb → Prog → Type 0
+AnswersCalls v p =
+    (g : Geometry) (e : Given) (ws : List ℕ) (b : Bucket) (c : Call) (w : ℕ) → CanAnswer g e ws b c w → c.verb ≡ v → (HasKey v → 1 ≤ length c.key) → (s : RunState) (bound : ℕ) → HasBegun g ws b c s →
+    s.steps + 310 * g.slots + 20 * w + 600 ≤ bound → bound ≤ e.budget → Ends e p s (Answered g b c w bound)
 
-abbrev pub IsTimed : List ℕ → Bucket → RunState → Type 0
-IsTimed ws b s = Timed ws b s.words s.stage s.floor s.stores s.emitted s.out (s.regs 0) (s.regs 1) (s.regs 2)
+-- the command's program is the one of its number, and answers
+pub record IsServed (v : Verb) : Type 0 where
+  pub few : verb_number v < 2 ^ 4
+  pub there : slice_get programs (verb_number v) ≡ Some (program_in rows (verb_number v))
+  pub answers : AnswersCalls v (program_in rows (verb_number v))
 
-module _ (g : Geometry) (e : Given) (ws : List ℕ) (b : Bucket) (c : Call) (can : CanAnswer g e ws b c) where
-  abbrev others : Prog
-  others = Seq (Block (Const 27 6 ∷ [])) (IfEq 24 27 (get_program g) fixed_program)
-
-  -- an end that is one statement earlier
-  sooner : (p : Prog) (s : RunState) (n bound : ℕ) → within anything p ≡ true → n < bound → Ends e p s (Answered g b c n) → Ends e p s (λ t. Answered g b c bound (tick t))
-  sooner p s n bound w lt ends = then_so e anything p s (Answered g b c n) (λ t. Answered g b c bound (tick t)) w (λ t f a. answered_tick g b c n bound t a lt) ends
-
-  gets : c.verb ≡ Get → (s : RunState) (bound : ℕ) → HasBegun ws b c s → s.steps + 300 * g.slots + 8 * g.value_words + 220 ≤ bound → Ends e (get_program g) s (Answered g b c bound)
-  gets is =
-      let long = get_keyed c can.asked.built is in
-      get_answers g e ws b c can.valid can.stands can.bounded is (has_key g e ws b c can long) long can.asked.key_short can.out_room
-
-  by_command : (s : RunState) (bound : ℕ) → IsBuilt c → HasBegun ws b c s → s.steps + 310 * g.slots + 20 * g.value_words + 610 ≤ bound → bound ≤ e.budget → Ends e (IfEq 24 0 (set_program g) others) s (Answered g b c bound)
-  by_command s bound (OfSet is long) begun steps few =
-      let verb : s.regs 24 ≡ 0 = begun.called.verb ∙ ap verb_number is in (
-        λ y. set_answers g e ws b c can is (tick s) bound begun (omega (arith, steps)) few,
-        λ n. absurd (n (verb ∙ sym begun.none)),
-      )
-  by_command s bound (OfGet is long) begun steps few =
-      let verb : s.regs 24 ≡ 6 = begun.called.verb ∙ ap verb_number is in (
-        λ y. absurd (omega (arith, y, verb, begun.none)),
-        λ n. (
-          λ y. sooner (get_program g) (tick (write (tick s) 27 6)) (bound - 1) bound refl (omega (arith, steps)) (gets is (tick (write (tick s) 27 6)) (bound - 1) begun (omega (arith, steps))),
-          λ n'. absurd (n' verb),
-        ),
-      )
-  by_command s bound (OfText is) begun steps few =
-      let verb : s.regs 24 ≡ 15 = begun.called.verb ∙ ap verb_number is in (
-        λ y. absurd (omega (arith, y, verb, begun.none)),
-        λ n. (
-          λ y. absurd (omega (arith, y, verb)),
-          λ n'. then_so e anything fixed_program (tick (write (tick s) 27 6)) (Answered g b c (bound - 2)) (λ t. Answered g b c bound (tick (tick t))) refl
-              (λ t f a. answered_tick g b c (bound - 1) bound (tick t) (answered_tick g b c (bound - 2) (bound - 1) t a (omega (arith, steps))) (omega (arith, steps)))
-              (fixed_answers g e (tick (write (tick s) 27 6)) ws b c (bound - 2) can.stands is can.asked.text (omega (arith, can.call.block.room)) can.call.text (omega (arith, can.out_room)) begun (omega (arith, steps))),
-        ),
-      )
-
-  pub dispatch_answers : (s : RunState) (bound : ℕ) → IsTimed ws b s → s.steps + 310 * g.slots + 20 * g.value_words + 620 ≤ bound → bound ≤ e.budget → Ends e (dispatch g) s (Answered g b c bound)
-  dispatch_answers s bound h steps few =
-      let parsed : IsParsed s.stage = ap is_parsed h.time in
-      let room = can.call.block.room in (
-        parsed,
-        slice_index e.input 0,
-        word_is e.input (s.regs 0) 0 h.none (omega (arith, room)),
+-- one row for each command that requests may ask for, in their order
+pub served : (v : Verb) → IsReadVerb v → IsServed v
+served v read =
+    read_verb_is IsServed v (
+      record { few = omega arith; there = refl; answers = λ g e ws b c w can is some. set_answers g e ws b c w can is (some tt) },
+      (
+        record { few = omega arith; there = refl; answers = λ g e ws b c w can is some. get_answers g e ws b c w can is (some tt) },
         (
-          parsed,
-          slice_index e.input 9,
-          word_is e.input 9 9 refl (omega (arith, room)),
-          (
-            parsed,
-            slice_index e.input 10,
-            word_is e.input 10 10 refl (omega (arith, room)),
-            by_command _ bound can.asked.built (record {
-              same = h.same;
-              time = h.time;
-              low = h.low;
-              few = h.few;
-              silent = h.silent;
-              empty = h.empty;
-              none = h.none;
-              moment = h.moment;
-              one = h.one;
-              called = record { verb = can.call.verb; last = can.call.last; noreply = can.call.noreply };
-            }) (omega (arith, steps)) few,
-          ),
+          record { few = omega arith; there = refl; answers = λ g e ws b c w can is some. delete_answers g e ws b c w can is (some tt) },
+          (record { few = omega arith; there = refl; answers = λ g e ws b c w can is some. fixed_answers g e ws b c w can is }, tt),
         ),
-      )
+      ),
+    ) read
+
+-- after the moment: all of a command's beginning but its marks
+pub record Timed (g : Geometry) (ws : List ℕ) (b : Bucket) (s : RunState) : Type 0 where
+  pub same : s.words ≡ ws
+  pub time : s.stage ≡ timed
+  pub low : s.floor ≤ 1
+  pub few : s.stores ≤ 1
+  pub silent : s.emitted ≡ 0
+  pub empty : s.out ≡ []
+  pub constants : HasConstants g b.moment s
+
+module _ (g : Geometry) (e : Given) (ws : List ℕ) (b : Bucket) (c : Call) (w : ℕ) (can : CanAnswer g e ws b c w) (offered : IsOffered c) where
+  -- the choice keeps where a command begins
+  begun_chosen : (cost : ℕ) (s u : RunState) → Chosen e r_number cost s u → HasBegun g ws b c s → HasBegun g ws b c u
+  begun_chosen cost s u h begun =
+      let k = λ (r : ℕ) (ne : r ≢ r_number). h.regs r ne in
+      let m = begun.constants in
+      record {
+        same = h.words ∙ begun.same;
+        time = h.stage ∙ begun.time;
+        low = omega (arith, h.floor, begun.low);
+        few = omega (arith, h.stores, begun.few);
+        silent = h.emitted ∙ begun.silent;
+        empty = h.out ∙ begun.empty;
+        constants = record {
+          none = k r_zero (omega arith) ∙ m.none;
+          moment = k r_moment (omega arith) ∙ m.moment;
+          one = k r_one (omega arith) ∙ m.one;
+          to_expiry = k r_expiry_offset (omega arith) ∙ m.to_expiry;
+          wide = k r_width (omega arith) ∙ m.wide;
+          ends = k r_end (omega arith) ∙ m.ends;
+        };
+        noreply = k r_noreply (omega arith) ∙ begun.noreply;
+      }
+
+  later : (low m : ℕ) (u : RunState) → Answered g b c w (low + m) u → Answered g b c w (low + suc m) u
+  later low m u a = record { steps = omega (arith, a.steps); stage = a.stage; stands = a.stands; reply = a.reply }
+
+  later_tick : (low m : ℕ) (u : RunState) → Answered g b c w (low + m) u → Answered g b c w (low + suc m) (tick u)
+  later_tick low m u a = record { steps = omega (arith, a.steps); stage = a.stage; stands = a.stands; reply = a.reply }
+
+  dispatch_ends : (s : RunState) (bound : ℕ) → HasBegun g ws b c s → s.regs r_verb ≡ verb_number c.verb → s.steps + 310 * g.slots + 20 * w + 612 ≤ bound → bound ≤ e.budget → Ends e dispatch s (Answered g b c w bound)
+  dispatch_ends s bound begun verb steps within =
+      let row = served c.verb offered.verb in
+      let low = bound - 4 in
+      let same : low + 4 ≡ bound = omega (arith, steps) in
+      subst (λ n. Ends e dispatch s (Answered g b c w n)) same
+      (halves_ends e r_verb r_number (omega arith) 4 0 (verb_number c.verb) programs (program_in rows (verb_number c.verb)) s (λ m. Answered g b c w (low + m)) row.few row.there (omega (arith, verb))
+      (later low) (later_tick low)
+      (λ u h. row.answers g e ws b c w can refl offered.key u (low + 0) (begun_chosen 8 s u h begun) (omega (arith, h.steps, steps)) (omega (arith, within))))
+
+  -- with the marks of the call
+  pub marked_ends : (s : RunState) (bound : ℕ) → Timed g ws b s → s.steps + 310 * g.slots + 20 * w + 620 ≤ bound → bound ≤ e.budget → Ends e (Seq load_marks dispatch) s (Answered g b c w bound)
+  marked_ends s bound h steps within = (
+    ap is_parsed h.time,
+    verb_number c.verb,
+    subst (λ i. HasWord e.input i (verb_number c.verb)) (sym h.constants.none) (input_word e.input c verb_index (verb_number c.verb) can.call (omega arith) can.call.verb),
+    (
+      ap is_parsed h.time,
+      _,
+      input_word e.input c noreply_index _ can.call (omega arith) can.call.noreply,
+      dispatch_ends _ bound (record {
+        same = h.same;
+        time = h.time;
+        low = h.low;
+        few = h.few;
+        silent = h.silent;
+        empty = h.empty;
+        constants = record { none = h.constants.none; moment = h.constants.moment; one = h.constants.one; to_expiry = h.constants.to_expiry; wide = h.constants.wide; ends = h.constants.ends };
+        noreply = refl;
+      }) refl (omega (arith, steps)) within,
+    ),
+  )

@@ -5,8 +5,9 @@ use Rattle.std.proofs.lemmas.List.{length-replicate}
 use Rattle.mc_model.specs.declared.geometry.Geometry.{Geometry}
 use Rattle.mc_model.specs.Call.{Call}
 use Rattle.mc_model.specs.Packed.{pack}
-use Rattle.mc_model.proofs.PackLaws.{length_pack}
-use Rattle.sei_hand.specs.InputWords.{field_words, filled_up, key_words, input_words, input_room}
+use Rattle.mc_model.proofs.PublicPacking.{length_pack}
+use Rattle.sei_hand.specs.InputWords.{field_words, filled_up, key_words, input_words}
+use Rattle.sei_pass.specs.Spaces.{input_room}
 
 pub length_filled_up : (n : ℕ) (ws : List ℕ) → length ws ≤ n → length (filled_up n ws) ≡ n
 length_filled_up n ws h = omega (arith, length-append ws (replicate (n - length ws) 0), length-replicate {A = ℕ} (n - length ws) 0)

@@ -12,7 +12,8 @@ use Rattle.mc_text.specs.Meaning.{Meaning, calls_of}
 use Rattle.mc_text.specs.Reading.{meaning_at, calls_at, IsReading}
 use Rattle.mc_text.specs.Spells.{Spells}
 use Rattle.sei_stmt.specs.Handling.{Parsed, parsed_words}
-use Rattle.sei_hand.specs.InputWords.{input_words, input_room}
+use Rattle.sei_hand.specs.InputWords.{input_words}
+use Rattle.sei_pass.specs.Spaces.{input_room}
 use Rattle.sei_hand.specs.Requests.{limits_of, calls_in, call_in, parsed_of, parsed_call}
 use Rattle.sei_hand.specs.ReadCall.{IsReadCall, ComesFrom}
 use Rattle.sei_hand.proofs.InputLaws.{length_input_words}

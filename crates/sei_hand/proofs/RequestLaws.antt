@@ -1,26 +1,26 @@
 -- The request that bytes spell, as a function and as a relation.
 use Rattle.std.proofs.Common.{◌≡◌, ℕ, ◌≤◌, Bool, true, false, cond, List, length, refl, sym, ap, ◌∙◌, subst, arith, Option, Some, None, inl, inr, lit≤}
-use Rattle.std.specs.Prelude.{◌==◌, ◌&&◌, nat_lt, nat_le, slice_get, All, IsTrue}
+use Rattle.std.specs.Prelude.{◌==◌, ◌&&◌, nat_lt, nat_le, slice_get, All}
 use Rattle.std.specs.List.{list_all}
 use Rattle.std.proofs.lemmas.Option.{slice_get_cases}
 use Rattle.std.specs.Option.{option_map, option_and_then}
 use Rattle.std.proofs.lemmas.List.{take_all}
 use Rattle.std.proofs.lemmas.Bool.Decides.{nat_tests}
 use Rattle.mc_model.specs.declared.geometry.Geometry.{Geometry}
-use Rattle.mc_model.specs.declared.call.Verb.{Verb}
-use Rattle.mc_model.specs.declared.call.Verb.TheVariants as verbs
 use Rattle.mc_model.specs.Call.{Placed}
+use Rattle.mc_model.specs.Packed.{AreBytes}
+use Rattle.mc_text.specs.Bounds.{longest_key}
 use Rattle.mc_text.specs.declared.limits.Limits.{Limits}
 use Rattle.mc_text.specs.Fields.{is_key, is_key_byte}
 use Rattle.mc_text.specs.Meaning.{Meaning, calls_of}
 use Rattle.mc_text.specs.Front.{front}
-use Rattle.mc_text.specs.Fits.{HasKey, IsFit}
+use Rattle.mc_text.specs.Fits.{IsFit, HasBytes}
 use Rattle.mc_text.specs.Spells.{Spells, Begins}
-use Rattle.mc_text.proofs.FrontLaws.{begins_front, spells_whole}
-use Rattle.mc_text.proofs.FitLaws.{calls_fit}
+use Rattle.mc_text.proofs.PublicRequests.{begins_front, spells_whole}
+use Rattle.mc_text.proofs.PublicCalls.{calls_fit, calls_hold_bytes}
+use Rattle.mc_text.proofs.PublicCommands.{read_has_key}
 use Rattle.sei_hand.specs.Requests.{limits_of, if_whole, request_of, call_in}
-use Rattle.sei_hand.specs.ReadCall.{IsReadVerb, IsReadCall}
-use Rattle.sei_hand.proofs.FieldLaws.{IsRead, spelled_calls_read}
+use Rattle.sei_hand.specs.ReadCall.{IsReadCall}
 
 same_test : (n : ℕ) → (n == n) ≡ true
 same_test n = grind (arith, nat_tests)
@@ -82,38 +82,37 @@ key_lengths w e = by_tests (nat_lt 0 (length w)) (nat_le (length w) 250) (list_a
     by_tests false b d s t f = cc
 
 -- a call has a key with its form, or it is a text without one
-key_within : (p : Placed) → (HasKey p.call.verb → IsTrue (is_key p.call.key)) → IsRead p → length p.call.key ≤ 250
-key_within p h r = by_verb p.call.verb refl r.fields.verb
-  where
-    keyed : HasKey p.call.verb → length p.call.key ≤ 250
-    keyed k = (key_lengths p.call.key (h k)).1
+key_within : (l : Limits) (p : Placed) → IsFit l p → length p.call.key ≤ longest_key
+key_within l p f = elim (read_has_key p.call.verb f.fields.verb) [
+  | inl keyed ↦ (key_lengths p.call.key (f.key keyed)).1
+  | inr text ↦ rw (f.no_key text) (lit≤ tt)
+]
 
-    by_verb : (v : Verb) → p.call.verb ≡ v → IsReadVerb v → length p.call.key ≤ 250
-    by_verb verbs.Set e q = let P : Verb → Type 0 = λ w. HasKey w in keyed (subst P (sym e) tt)
-    by_verb verbs.Get e q = let P : Verb → Type 0 = λ w. HasKey w in keyed (subst P (sym e) tt)
-    by_verb verbs.Fixed e q = rw (r.text e).key (lit≤ tt)
-    by_verb verb e q = absurd q
-
-joined : (g : Geometry) (p : Placed) → IsFit (limits_of g) p → IsRead p → IsReadCall g p
-joined g p f r = record {
+fit_is_read : (g : Geometry) (p : Placed) → IsFit (limits_of g) p → IsReadCall g p
+fit_is_read g p f = record {
   placed = f.placed;
   bucket = f.bucket;
-  fields = r.fields;
+  fields = f.fields;
   some_key = λ k. (key_lengths p.call.key (f.key k)).0;
-  key = key_within p f.key r;
+  key = key_within (limits_of g) p f;
   block = f.block;
-  no_key = λ v. (r.text v).key;
-  no_block = λ v. (r.text v).block;
+  no_key = f.no_key;
+  no_block = f.no_block;
   text = f.text;
 }
 
+-- what holds of each call of a request that is spelled holds of each that is found
+found_is : (P : Placed → Type 0) (g : Geometry) (bytes : List ℕ) (nth : ℕ) (p : Placed) → ((m : Meaning) → Spells (limits_of g) bytes m → All P (calls_of g.buckets m)) → call_in (limits_of g) bytes nth ≡ Some p → P p
+found_is P g bytes nth p each e = by_request (request_of (limits_of g) bytes) refl e
+  where
+    by_request : (o : Option Meaning) → request_of (limits_of g) bytes ≡ o → option_and_then (λ calls. slice_get calls nth) (option_map (calls_of g.buckets) o) ≡ Some p → P p
+    by_request None q f = cc
+    by_request (Some m) q f = all_at P (calls_of g.buckets m) nth p (each m (request_spells (limits_of g) bytes m q)) f
+
 -- each call that is found
 pub found_call : (g : Geometry) (bytes : List ℕ) (nth : ℕ) (p : Placed) → 1 ≤ g.buckets → call_in (limits_of g) bytes nth ≡ Some p → IsReadCall g p
-found_call g bytes nth p some e = by_request (request_of (limits_of g) bytes) refl e
-  where
-    by_request : (o : Option Meaning) → request_of (limits_of g) bytes ≡ o → option_and_then (λ calls. slice_get calls nth) (option_map (calls_of g.buckets) o) ≡ Some p → IsReadCall g p
-    by_request None q f = cc
-    by_request (Some m) q f =
-        let spelled = request_spells (limits_of g) bytes m q in
-        joined g p (all_at (IsFit (limits_of g)) (calls_of g.buckets m) nth p (calls_fit (limits_of g) bytes m some spelled) f)
-        (all_at IsRead (calls_of g.buckets m) nth p (spelled_calls_read (limits_of g) bytes m spelled) f)
+found_call g bytes nth p some e = fit_is_read g p (found_is (IsFit (limits_of g)) g bytes nth p (λ m s. calls_fit (limits_of g) bytes m some s) e)
+
+-- each call that is found in bytes
+pub found_bytes : (g : Geometry) (bytes : List ℕ) (nth : ℕ) (p : Placed) → AreBytes bytes → call_in (limits_of g) bytes nth ≡ Some p → HasBytes p
+found_bytes g bytes nth p h e = found_is HasBytes g bytes nth p (λ m s. calls_hold_bytes (limits_of g) bytes m h s) e

@@ -21,8 +21,8 @@ use Rattle.sei_stmt.specs.Sound.{Serves, IsSound}
 use Rattle.sei_stmt.specs.Table.{HasRegisters}
 use Rattle.sei_stmt.proofs.ServeLaws.{serves}
 use Rattle.sei_hand.specs.Commands.{hands_program, hands_table}
-use Rattle.sei_hand.specs.Served.{Stands, Asks}
-use Rattle.sei_hand.specs.Spaces.{rooms_of, space_of}
+use Rattle.sei_hand.specs.Served.{Stands, Asks, space_for}
+use Rattle.sei_pass.specs.Spaces.{rooms_of, space_of}
 use Rattle.sei_hand.proofs.BytesLaws.{rendered_bytes}
 use Rattle.sei_hand.proofs.TableLaws.{has_registers}
 use Rattle.sei_hand.proofs.Whole.{hands_ends}
@@ -51,7 +51,7 @@ module _ (g : Geometry) (valid : IsValid g) (setting : Setting) (pass : IsPassOf
 -- a handler that makes the input words of calls is sound
 pub hands_sound : (g : Geometry) → IsValid g → (parsed : List ℕ → ℕ → Option Parsed) (call_of : List ℕ → ℕ → Call) →
     ((input : List ℕ) (nth : ℕ) (p : Parsed) → AreBytes input → parsed input nth ≡ Some p → Asks g p.words (call_of input nth)) →
-    IsSound (hands_table g) parsed (rendered (8 * g.value_words)) (space_of g) (Stands g) (λ input nth b now. answer (room_of g) b now (call_of input nth))
+    IsSound (hands_table g) parsed (rendered (8 * g.value_words)) (space_for g) (Stands g) (Stands g) (λ input nth b now. answer (room_of g) b now (call_of input nth))
 hands_sound g valid parsed call_of asks = record {
   serves = λ input bytes nth p is setting pass served words b h now small notes told. hands_serve g valid setting pass p served (call_of input nth) (asks input nth p bytes is) now small words b h notes told;
 }

@@ -6,14 +6,13 @@ use Rattle.mc_render.specs.Rendering.{rendered}
 use Rattle.sei_stmt.specs.Sound.{IsSoundHandler}
 use Rattle.sei_hand.specs.Commands.{hands_table}
 use Rattle.sei_hand.specs.Requests.{limits_of, call_in, call_or_blank, count_of_calls, parsed_call}
-use Rattle.sei_hand.specs.Served.{Stands, answer_of}
-use Rattle.sei_hand.specs.Spaces.{space_of}
+use Rattle.sei_hand.specs.Served.{Stands, answer_of, space_for}
 use Rattle.sei_hand.proofs.CountedLaws.{counted, found, buckets, parses}
 use Rattle.sei_hand.proofs.HandsLaws.{parsed_is_asked}
 use Rattle.sei_hand.proofs.Serving.{hands_sound}
 
 pub sound_hands : (g : Geometry) → IsValid g →
-    IsSoundHandler (hands_table g) (count_of_calls g) (parsed_call g) (rendered (8 * g.value_words)) (space_of g) g.buckets (Stands g) (answer_of g)
+    IsSoundHandler (hands_table g) (count_of_calls g) (parsed_call g) (rendered (8 * g.value_words)) (space_for g) g.buckets (Stands g) (Stands g) (answer_of g)
 sound_hands g valid = record {
   sound = hands_sound g valid (parsed_call g) (λ input nth. call_or_blank (call_in (limits_of g) input nth)) (λ input nth p bytes is. parsed_is_asked g valid input nth p bytes is);
   parses = parses g;

@@ -1,22 +1,25 @@
--- The statements of the table name registers alone.
-use Rattle.std.proofs.Common.{◌≡◌, ℕ, zero, suc, true, List, [], ◌∷◌, Some, refl, subst}
+-- The statements of the one program are a table, so they name registers alone.
+use Rattle.std.proofs.Common.{◌≡◌, ℕ, List, [], ◌∷◌, ◌++◌, Some, refl, sym, ap, ◌∙◌, subst}
 use Rattle.std.specs.Prelude.{slice_get}
-use Rattle.std.specs.List.{list_all}
-use Rattle.std.proofs.lemmas.Bool.{and_parts}
 use Rattle.mc_model.specs.declared.geometry.Geometry.{Geometry}
 use Rattle.sei_stmt.specs.declared.stmt.Stmt.{Stmt}
-use Rattle.sei_stmt.specs.Table.{registers_fit, HasRegisters}
-use Rattle.sei_stmt.proofs.TableLaws.{registers_are_there}
-use Rattle.sei_hand.specs.Commands.{hands_table}
+use Rattle.sei_stmt.specs.declared.stmt.Stmt.TheVariants.{Halt}
+use Rattle.sei_stmt.specs.Programs.{Prog, flatten}
+use Rattle.sei_stmt.specs.Table.{IsTable, HasRegisters}
+use Rattle.sei_stmt.proofs.PublicPrograms.{program_is_table, table_registers}
+use Rattle.sei_hand.specs.Commands.{hands_program, hands_table}
 
-registers_fit_all : (g : Geometry) → list_all registers_fit (hands_table g) ≡ true
+pub hands_is_table : (g : Geometry) → IsTable (hands_table g)
 unfolding hands_table
-registers_fit_all g = refl
+hands_is_table g = program_is_table (hands_program g) refl
 
-one_fits : (xs : List Stmt) (i : ℕ) (s : Stmt) → list_all registers_fit xs ≡ true → slice_get xs i ≡ Some s → registers_fit s ≡ true
-one_fits [] i s h e = absurd (cc)
-one_fits (x ∷ xs) zero s h e = let same : x ≡ s = cc in subst (λ y. registers_fit y ≡ true) same (and_parts (registers_fit x) (list_all registers_fit xs) h).0
-one_fits (x ∷ xs) (suc i) s h e = one_fits xs i s (and_parts (registers_fit x) (list_all registers_fit xs) h).1 e
+-- the statements of the program with a Halt after them are the table
+pub made_is : (g : Geometry) (all made : List Stmt) (p : Prog) → all ≡ made ++ Halt ∷ [] → made ≡ flatten p → p ≡ hands_program g → all ≡ hands_table g
+unfolding hands_table
+made_is g all made p ended flat is = ended ∙ ap (λ l. l ++ Halt ∷ []) (flat ∙ ap flatten is)
+
+pub made_is_table : (g : Geometry) (stmts : List Stmt) → stmts ≡ hands_table g → IsTable stmts
+made_is_table g stmts is = subst IsTable (sym is) (hands_is_table g)
 
 pub has_registers : (g : Geometry) (i : ℕ) (s : Stmt) → slice_get (hands_table g) i ≡ Some s → HasRegisters s
-has_registers g i s e = registers_are_there s (one_fits (hands_table g) i s (registers_fit_all g) e)
+has_registers g i s is = table_registers (hands_table g) i s (hands_is_table g) is

@@ -1,12 +1,12 @@
 -- The input words: what the statements of a pass read of a call.
-use Rattle.std.specs.Prelude.{ℕ, ◌+◌, ◌-◌, List, [], ◌∷◌, ◌++◌, length, replicate}
+use Rattle.std.specs.Prelude.{ℕ, ◌-◌, List, [], ◌∷◌, ◌++◌, length, replicate}
 use Rattle.sei_code.specs.Codes.{fnv64}
 use Rattle.mc_model.specs.declared.geometry.Geometry.{Geometry}
 use Rattle.mc_model.specs.declared.call.Verb.{Verb}
 use Rattle.mc_model.specs.declared.call.Verb.TheVariants.{Flush, Fixed}
-use Rattle.mc_model.specs.Call.{Call}
+use Rattle.mc_model.specs.Call.{Call, verb_number}
 use Rattle.mc_model.specs.Packed.{words_for, pack}
-use Rattle.tab_find.specs.Calls.{verb_number, mark}
+use Rattle.tab_find.specs.Calls.{mark}
 
 -- the hash of the key, where the command is one on a key
 abbrev pub hash_word : Verb → List ℕ → ℕ
@@ -32,7 +32,3 @@ key_words = 32
 -- geometry has as many words, and the room for them is known before any request is read.
 unfoldable pub input_words : Geometry → Call → List ℕ
 input_words g c = field_words c ++ filled_up key_words (pack c.key) ++ filled_up g.value_words (pack c.block)
-
--- how many they are
-abbrev pub input_room : Geometry → ℕ
-input_room g = 46 + g.value_words

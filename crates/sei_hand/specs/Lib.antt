@@ -1,9 +1,6 @@
 pub mod InputWords
 pub mod Requests
 pub mod ReadCall
-pub mod Bounded
 pub mod Commands
-pub mod Codes
 pub mod Made
-pub mod Spaces
 pub mod Served

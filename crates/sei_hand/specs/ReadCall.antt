@@ -1,30 +1,14 @@
 -- What holds of each call that is read from a request.
-use Rattle.std.specs.Prelude.{◌≡◌, ℕ, ◌*◌, ◌^◌, ◌<◌, ◌≤◌, List, [], length, ⊤, Some}
+use Rattle.std.specs.Prelude.{◌≡◌, ℕ, ◌*◌, ◌<◌, ◌≤◌, List, [], length, Some}
 use Rattle.mc_model.specs.declared.geometry.Geometry.{Geometry}
-use Rattle.mc_model.specs.declared.call.Verb.{Verb}
-use Rattle.mc_model.specs.declared.call.Verb.TheVariants.{Set, Get, Fixed}
-use Rattle.mc_model.specs.Call.{Call, Placed, IsPlaced}
-use Rattle.mc_model.specs.Packed.{AreBytes}
-use Rattle.mc_text.specs.Fits.{HasKey}
+use Rattle.mc_model.specs.declared.call.Verb.TheVariants.{Fixed}
+use Rattle.mc_model.specs.Call.{Placed, IsPlaced}
+use Rattle.mc_model.specs.Texts.{text_count}
+use Rattle.mc_text.specs.Fits.{HasKey, HasReadFields}
 use Rattle.mc_text.specs.Bounds.{longest_key}
 use Rattle.sei_stmt.specs.Handling.{Parsed}
-use Rattle.sei_hand.specs.InputWords.{input_room}
+use Rattle.sei_pass.specs.Spaces.{input_room}
 use Rattle.sei_hand.specs.Requests.{limits_of, call_in, parsed_of}
-
--- the commands that requests have today
-abbrev pub IsReadVerb : Verb → Type 0
-IsReadVerb Set = ⊤
-IsReadVerb Get = ⊤
-IsReadVerb Fixed = ⊤
-IsReadVerb verb = ⊥
-
--- whatever its key and its block are
-pub record HasReadFields (c : Call) : Type 0 where
-  pub verb : IsReadVerb c.verb
-  pub flags : c.flags < 2 ^ 32
-  pub exptime : c.exptime < 2 ^ 63
-  pub unique : c.unique ≡ 0
-  pub value : c.value ≡ 0
 
 -- a text has neither key nor block
 pub record IsReadCall (g : Geometry) (p : Placed) : Type 0 where
@@ -36,12 +20,7 @@ pub record IsReadCall (g : Geometry) (p : Placed) : Type 0 where
   pub block : length p.call.block ≤ 8 * g.value_words
   pub no_key : p.call.verb ≡ Fixed → p.call.key ≡ []
   pub no_block : p.call.verb ≡ Fixed → p.call.block ≡ []
-  pub text : p.call.text < 17
-
--- its key and its block are bytes
-pub record HasBytes (p : Placed) : Type 0 where
-  pub key : AreBytes p.call.key
-  pub block : AreBytes p.call.block
+  pub text : p.call.text < text_count
 
 -- the input words are those of a call that was read
 pub record ComesFrom (g : Geometry) (bytes : List ℕ) (nth : ℕ) (x : Parsed) : Type 0 where

@@ -1,83 +1,85 @@
-//! The statements of all commands.
-ghost use Rattle.std.specs.Prelude.{◌≡◌, IfOk};
+//! The program of all commands. The error of each call is that memory ran out.
+ghost use Rattle.std.specs.Prelude.{◌≡◌, IfOk, map};
 ghost use Rattle.mc_model.specs.Server.{IsValid};
-ghost use Rattle.sei_hand.specs.Codes as codes;
+ghost use Rattle.sei_stmt.specs.Written.{prog_of};
+ghost use Rattle.mc_model.specs.Call.{verb_number};
 ghost use Rattle.sei_hand.specs.Commands as commands;
 
-use crate::getting::{fixed, get};
-use crate::setting::set_item;
-use mc_model::Geometry;
+use mc_model::{Geometry, Verb};
 use sei_code::Memory;
-use sei_stmt::{Fragment, Stmt, if_eq, place};
+use sei_stmt::{Program, Stmt};
 use std::alloc::Global;
-use tab_find::registers::{INDEX, ZERO};
+use tab_find::registers::{INDEX, NOREPLY, NUMBER, VERB, ZERO};
 use tab_find::statements::{input, set};
-use tab_find::{Part, fragment};
+use tab_find::{inputs, moment};
 
-/// The register of the call's command.
-pub const VERB: u8 = 24;
+/// All commands, in order of their numbers.
+const VERBS: [Verb; 16] = [
+    Verb::Set,
+    Verb::Add,
+    Verb::Replace,
+    Verb::Append,
+    Verb::Prepend,
+    Verb::Cas,
+    Verb::Get,
+    Verb::Gets,
+    Verb::Gat,
+    Verb::Gats,
+    Verb::Touch,
+    Verb::Delete,
+    Verb::Incr,
+    Verb::Decr,
+    Verb::Flush,
+    Verb::Fixed,
+];
 
-/// The register of the mark that the call is its request's last.
-pub const LAST: u8 = 25;
-
-/// The register of the mark that no reply is wanted.
-pub const NOREPLY: u8 = 26;
-
-/// The register of the number of a command or of a text.
-pub const NUMBER: u8 = 27;
-
-/// The command of the call, and its marks.
-fn load_marks(alloc: Global) -> Result<Vec<Stmt>, Memory>
-    ensures { IfOk result (λ stmts. stmts.items ≡ commands.load_marks) }
+/// The program of a command, which is empty if no request may ask for it.
+fn program(alloc: Global, verb: Verb) -> Result<Program, Memory>
+    ensures { IfOk result (λ p. prog_of p ≡ commands.program_in commands.rows (verb_number verb)) }
 {
-    let stmts = vec![in alloc;
-        input(VERB, ZERO),
-        set(INDEX, 9),
-        input(LAST, INDEX),
-        set(INDEX, 10),
-        input(NOREPLY, INDEX),
-    ]?;
-    Ok(stmts)
+    match verb {
+        Verb::Set => tab_store::set(alloc),
+        Verb::Get => tab_read::get(alloc),
+        Verb::Delete => tab_read::delete(alloc),
+        Verb::Fixed => tab_read::fixed(alloc),
+        _ => Ok(Program::empty(alloc)),
+    }
 }
 
-/// The commands but set.
-#[tactic(auto, unfolding(crate::specs::Codes::other_code))]
-fn other(alloc: Global, g: &Geometry) -> Result<Fragment, Memory>
-    requires { IsValid g.now }
-    ensures { IfOk result (λ f. f ≡ codes.other_code g.now) }
+/// The programs of all commands, in order of their numbers.
+fn programs(alloc: Global) -> Result<Vec<Program>, Memory>
+    ensures { IfOk result (λ ps. map prog_of ps.items ≡ commands.programs) }
 {
-    let get = get(alloc, g)?;
-    let fixed = fixed(alloc)?;
-    let mut stmts = vec![in alloc; set(NUMBER, 6)]?;
-    if_eq(&mut stmts, VERB, NUMBER, &get.stmts, &fixed.stmts)?;
-    Ok(Fragment { stmts })
+    let mut programs = Vec::new(alloc);
+    for verb in VERBS {
+        programs.push(program(alloc, verb)?)?;
+    }
+    Ok(programs)
 }
 
-/// The command of the call.
-#[tactic(auto, unfolding(crate::specs::Codes::dispatch_code))]
-fn dispatch(alloc: Global, g: &Geometry) -> Result<Fragment, Memory>
-    requires { IsValid g.now }
-    ensures { IfOk result (λ f. f ≡ codes.dispatch_code g.now) }
+/// Loads the command of the call, and the mark that no reply is wanted.
+fn load_marks(alloc: Global) -> Result<Program, Memory>
+    ensures { IfOk result (λ p. prog_of p ≡ commands.load_marks) }
 {
-    let item = set_item(alloc, g)?;
-    let other = other(alloc, g)?;
-    let mut stmts = load_marks(alloc)?;
-    if_eq(&mut stmts, VERB, ZERO, &item.stmts, &other.stmts)?;
-    Ok(Fragment { stmts })
+    Program::block(
+        alloc,
+        &[
+            input(VERB, ZERO),
+            set(INDEX, inputs::NOREPLY),
+            input(NOREPLY, INDEX),
+        ],
+    )
 }
 
-/// All statements.
-#[tactic(auto, unfolding(crate::specs::Codes::hands_code))]
-pub fn statements(alloc: Global, g: &Geometry) -> Result<Vec<Stmt>, Memory>
+/// All statements but the last.
+pub fn hands(alloc: Global, g: &Geometry) -> Result<Program, Memory>
     requires { IsValid g.now }
-    ensures { IfOk result (λ stmts. stmts.items ≡ codes.hands_code g.now) }
+    ensures { IfOk result (λ p. prog_of p ≡ commands.hands_program g.now) }
 {
-    let mut stmts = vec![in alloc; Stmt::Parse]?;
-    let moment = fragment(alloc, g, Part::Moment)?;
-    place(&mut stmts, &moment)?;
-    let commands = dispatch(alloc, g)?;
-    place(&mut stmts, &commands)?;
-    stmts.push(Stmt::Render)?;
-    stmts.push(Stmt::Halt)?;
-    Ok(stmts)
+    let rendered = Program::block(alloc, &[Stmt::Render])?;
+    let programs = programs(alloc)?;
+    let chosen = Program::halves(alloc, 4, VERB, NUMBER, programs)?.then(alloc, rendered)?;
+    let marked = load_marks(alloc)?.then(alloc, chosen)?;
+    let timed = moment(alloc, g)?.then(alloc, marked)?;
+    Program::block(alloc, &[Stmt::Parse])?.then(alloc, timed)
 }

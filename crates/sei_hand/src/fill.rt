@@ -6,8 +6,10 @@ ghost use Rattle.sei_stmt.specs.Handling.{refilled};
 ghost use Rattle.mc_model.specs.Packed.{words_for, pack};
 ghost use Rattle.mc_model.specs.Views.{call_with, call_of, IsSpanOf};
 ghost use Rattle.mc_text.specs.Fits.{HasKey, HasOwnHash};
-ghost use Rattle.tab_find.specs.Calls.{verb_number, mark};
-ghost use Rattle.sei_hand.specs.InputWords.{hash_word, field_words, filled_up, input_words, input_room};
+ghost use Rattle.mc_model.specs.Call.{verb_number};
+ghost use Rattle.tab_find.specs.Calls.{mark};
+ghost use Rattle.sei_pass.specs.Spaces.{input_room};
+ghost use Rattle.sei_hand.specs.InputWords.{hash_word, field_words, filled_up, input_words};
 
 use mc_model::{CallSpan, Geometry, Verb, pack};
 use sei_code::WordList;

@@ -135,14 +135,18 @@ impl Handler for Hands {
     }
 }
 
-/// The words of a bucket stand for a bucket of the model.
+/// The words of a bucket stand for a bucket of the model, and a run starts on such words.
 impl Modeled for Hands {
     ghost use Rattle.mc_model.specs.Bucket.{Bucket};
-    ghost use Rattle.sei_hand.specs.Served.{Stands, answer_of};
+    ghost use Rattle.sei_hand.specs.Served.{Stands, answer_of, space_for};
 
     ghost State = { Bucket };
 
+    ghost begins = { Stands };
+
     ghost stands = { Stands };
+
+    ghost space = { space_for };
 
     ghost answer = { answer_of };
 }

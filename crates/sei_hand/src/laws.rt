@@ -1,24 +1,29 @@
 //! Laws of the definitions, each the clause of a function that does nothing.
 
-ghost use Rattle.std.specs.Prelude.{◌≡◌, ℕ, ◌<◌, ◌≤◌, ◌*◌, List, length, Some, None, slice_get};
+ghost use Rattle.std.specs.Prelude.{◌≡◌, ℕ, ◌<◌, ◌≤◌, ◌*◌, ◌^◌, List, length, map, All, Some, None, slice_get};
 ghost use Rattle.mc_model.specs.declared.geometry.Geometry.{Geometry};
+ghost use Rattle.mc_model.specs.Bucket.{Bucket};
 ghost use Rattle.mc_model.specs.Call.{Placed};
 ghost use Rattle.mc_model.specs.Packed.{AreBytes};
 ghost use Rattle.mc_model.specs.Server.{IsValid, room_of};
 ghost use Rattle.mc_text.specs.declared.limits.Limits.{Limits};
 ghost use Rattle.mc_text.specs.Meaning.{Meaning};
+ghost use Rattle.mc_text.specs.Commands.{read_numbers};
+ghost use Rattle.mc_text.specs.Fits.{HasBytes};
 ghost use Rattle.mc_text.specs.Spells.{Spells};
 ghost use Rattle.sei_stmt.specs.declared.stmt.Stmt.{Stmt};
 ghost use Rattle.sei_stmt.specs.Handling.{Parsed, parsed_words};
-ghost use Rattle.sei_hand.specs.InputWords.{input_words, input_room};
+ghost use Rattle.sei_pass.specs.Spaces.{input_room, words_before_block};
+ghost use Rattle.sei_hand.specs.InputWords.{input_words};
 ghost use Rattle.sei_hand.specs.Requests.{limits_of, request_of, call_in, call_or_blank, count_of_calls, parsed_of, parsed_call};
 ghost use Rattle.mc_model.specs.Answer.{answer};
 ghost use Rattle.mc_render.specs.Rendering.{rendered};
 ghost use Rattle.sei_stmt.specs.Sound.{IsSound, IsSoundHandler};
-ghost use Rattle.sei_hand.specs.Commands.{hands_table};
-ghost use Rattle.sei_hand.specs.Spaces.{space_of};
-ghost use Rattle.sei_hand.specs.Served.{Stands, answer_of};
-ghost use Rattle.sei_hand.specs.ReadCall.{IsReadCall, HasBytes, ComesFrom};
+ghost use Rattle.sei_words.specs.Stands.{StandsFor};
+ghost use Rattle.tab_find.specs.Inputs.{block_index};
+ghost use Rattle.sei_hand.specs.Commands.{rows, hands_table};
+ghost use Rattle.sei_hand.specs.Served.{Stands, answer_of, space_for};
+ghost use Rattle.sei_hand.specs.ReadCall.{IsReadCall, ComesFrom};
 
 /// The request of an input is the one that it spells.
 pub fn requests_are_spelled()
@@ -54,13 +59,28 @@ pub fn calls_are_counted()
     ensures parses { (g : Geometry) → slice_get (hands_table g) 0 ≡ Some Stmt.Parse }
 {}
 
+/// The commands that have a program are those of the calls of requests, by their numbers.
+pub fn commands_have_programs()
+    ensures { map (λ r. r.number) rows ≡ read_numbers }
+{}
+
+/// The room for input words is the place of a block and the words of the longest one.
+pub fn blocks_stand_last()
+    ensures { words_before_block ≡ block_index }
+{}
+
+/// Words of 64 bits that stand for a bucket stand for one whose numbers are of 64 bits: each is a word.
+pub fn words_are_bounded()
+    ensures { (g : Geometry) (words : List ℕ) (b : Bucket) → All (λ w. w < 2 ^ 64) words → StandsFor g words b → Stands g words b }
+{}
+
 /// The hands of each valid geometry are sound: from words that stand for a bucket, each honest run of
 /// their table, in the first pass and in the second, halts within its budget and its rooms, and leaves
 /// words that stand for the bucket that the answer leaves, with its reply. Words change in rising order
 /// of their addresses.
 pub fn hands_are_sound()
     ensures { (g : Geometry) → IsValid g →
-        IsSound (hands_table g) (parsed_call g) (rendered (8 * g.value_words)) (space_of g) (Stands g)
+        IsSound (hands_table g) (parsed_call g) (rendered (8 * g.value_words)) (space_for g) (Stands g) (Stands g)
         (λ input nth b now. answer (room_of g) b now (call_or_blank (call_in (limits_of g) input nth))) }
 {}
 
@@ -68,5 +88,5 @@ pub fn hands_are_sound()
 /// is said of their calls, in one.
 pub fn hands_are_a_sound_handler()
     ensures { (g : Geometry) → IsValid g →
-        IsSoundHandler (hands_table g) (count_of_calls g) (parsed_call g) (rendered (8 * g.value_words)) (space_of g) g.buckets (Stands g) (answer_of g) }
+        IsSoundHandler (hands_table g) (count_of_calls g) (parsed_call g) (rendered (8 * g.value_words)) (space_for g) g.buckets (Stands g) (Stands g) (answer_of g) }
 {}

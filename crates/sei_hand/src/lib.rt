@@ -4,16 +4,14 @@
 
 mod commands;
 mod fill;
-mod getting;
 mod hands;
 mod laws;
-mod setting;
 mod table;
 #[cfg(test)]
 mod tests;
 
 pub use hands::{Hands, HandsError};
 pub use laws::{
-    calls_are_counted, calls_are_read, hands_are_a_sound_handler, hands_are_sound,
-    requests_are_spelled,
+    blocks_stand_last, calls_are_counted, calls_are_read, commands_have_programs,
+    hands_are_a_sound_handler, hands_are_sound, requests_are_spelled, words_are_bounded,
 };

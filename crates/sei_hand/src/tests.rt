@@ -1,4 +1,6 @@
 //! The words of a call and the bytes of a reply, by the tables of the formats.
+mod counts;
+
 use super::*;
 use mc_model::Geometry;
 use sei_code::{Buffer, Rendered, WordList};

@@ -2,6 +2,10 @@
 use Rattle.std.specs.Prelude.{◌≡◌, ◌≢◌, ℕ, List, [], ◌∷◌, length, Some, slice_get, slice_set}
 use Rattle.sei_log.specs.declared.log.Change.{Change}
 
+-- the word at an address becomes another one
+abbrev pub change_of : ℕ → ℕ → ℕ → Change
+change_of address was becomes = record { address = address; was = was; becomes = becomes }
+
 -- the words behind the undoing of all these changes, the last one first
 abbrev pub undone : List Change → List ℕ → List ℕ
 undone [] words = words

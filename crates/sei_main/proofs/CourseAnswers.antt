@@ -18,8 +18,8 @@ use Rattle.sei_stmt.proofs.HonestLaws.{still_halted, halts_or_aborts}
 use Rattle.sei_pass.specs.declared.given.Sealed.{Sealed}
 use Rattle.sei_hand.specs.Requests.{parsed_of}
 use Rattle.sei_hand.specs.Served.{Stands}
-use Rattle.sei_hand.proofs.HandsLaws.{call_is_asked}
-use Rattle.sei_hand.proofs.Serving.{hands_serve}
+use Rattle.sei_hand.proofs.PublicHands.{call_is_asked}
+use Rattle.sei_hand.proofs.PublicHands.{hands_serve}
 use Rattle.sei_traverse.specs.declared.walk.Walk.{Walk}
 use Rattle.sei_traverse.specs.Comes.{renoted}
 use Rattle.sei_traverse.specs.Errand.{Errand, first_start}

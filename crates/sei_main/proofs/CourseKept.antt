@@ -12,7 +12,8 @@ use Rattle.sei_words.specs.Words.{BucketWords}
 use Rattle.sei_pass.specs.declared.given.Sealed.{Sealed}
 use Rattle.sei_stmt.specs.Handling.{Parsed, parsed_words}
 use Rattle.sei_pass.specs.Setting.{sealed_call}
-use Rattle.sei_pass.specs.State.{IsPass, input_room, new_pass}
+use Rattle.sei_pass.specs.Spaces.{input_room, pass_space}
+use Rattle.sei_pass.specs.State.{IsPass, new_pass}
 use Rattle.sei_traverse.specs.declared.turned.State.{State}
 use Rattle.sei_traverse.specs.declared.turned.State.TheVariants.{Went, Finished, Refused, Aborted}
 use Rattle.sei_traverse.specs.declared.turned.Want.{Want}
@@ -25,7 +26,7 @@ use Rattle.sei_traverse.specs.Walks.{IsWalk}
 use Rattle.sei_traverse.proofs.FactsLaws.{facts_begin}
 use Rattle.sei_traverse.proofs.StepsBound.{steps_bounded, begun_within}
 use Rattle.sei_hand.specs.Requests.{parsed_of, parsed_call}
-use Rattle.sei_hand.proofs.InputLaws.{length_input_words}
+use Rattle.sei_hand.proofs.PublicHands.{length_input_words}
 use Rattle.sei_main.specs.Course.{Course, loan_in, course_on, course_if, course_from, course_begun, course_of, served_behind}
 use Rattle.sei_main.specs.Errands.{service_for}
 use Rattle.sei_main.specs.Tables.{AreServer}
@@ -47,7 +48,7 @@ module _ (g : Geometry) (text : List ℕ) (now : ℕ) where
   unplanned_on : (c : Course) (asked : ℕ) → c.core ≡ unplanned asked → (n : ℕ) × ((course_on g text now c).core ≡ unplanned n)
   unfolding course_on
   unplanned_on c asked e =
-      let tree = turn_tree (given_of (service_for g) text g (bucket_of (loan_in c.buckets c.lent))) now now c.walk (words_of (loan_in c.buckets c.lent)) in
+      let tree = turn_tree (given_of (service_for g) text (pass_space g) (bucket_of (loan_in c.buckets c.lent))) now now c.walk (words_of (loan_in c.buckets c.lent)) in
       let rest = unplanned_stays tree asked in
       (rest.0, ap (λ (s : ScriptState). (scripted script_answer script_next tree s).1) e ∙ rest.1)
 
@@ -63,10 +64,10 @@ module _ (g : Geometry) (text : List ℕ) (now : ℕ) where
       by_state rest (Aborted abort) = rest c asked e
 
 -- a walk that begins is laid out
-begun_pass : (g : Geometry) → IsValid g → IsPass (new_pass g)
-begun_pass g valid = record { valid = valid; registers = refl; input = refl; output = refl; bytes = refl; made = omega arith; fits = omega arith; bytes_fit = omega arith; input_fits = omega arith }
+begun_pass : (g : Geometry) → IsValid g → IsPass (new_pass (pass_space g))
+begun_pass g valid = record { valid = valid; space = record { input = refl; output = refl; bytes = refl; log = refl; budget = refl }; registers = refl; input = refl; output = refl; bytes = refl; made = omega arith; fits = omega arith; bytes_fit = omega arith; input_fits = omega arith }
 
-begun_laid_out : (g : Geometry) (sealed : Sealed) → IsValid g → IsWalk (begun_walk g sealed)
+begun_laid_out : (g : Geometry) (sealed : Sealed) → IsValid g → IsWalk (begun_walk (pass_space g) sealed)
 begun_laid_out g sealed valid = record {
   first = begun_pass g valid;
   second = begun_pass g valid;
@@ -107,8 +108,8 @@ module _ (g : Geometry) (text : List ℕ) (now : ℕ) (buckets : List BucketWord
   rooms_on c steps more same is =
       let k = kept g text now c.walk (loan_in c.buckets c.lent) c.core in
       record {
-        walk = k.walk is.walk is.geometry (subst (FitsIn g (parsed_call g text)) (sym same) (fits_in (sealed_call (parsed_call g text) sealed.nth) is_call));
-        geometry = k.geometry ∙ is.geometry;
+        walk = k.walk is.walk is.space (subst (FitsIn (pass_space g) (parsed_call g text)) (sym same) (fits_in (sealed_call (parsed_call g text) sealed.nth) is_call));
+        space = k.space ∙ is.space;
       }
 
   within_on : (c : Course) (steps : ℕ) → IsTraversal (traversal g c.walk steps) → StepsWithin (traversal g c.walk steps) none_asked (script_counts c.core) →
@@ -181,15 +182,15 @@ module _ (g : Geometry) (text : List ℕ) (now : ℕ) (buckets : List BucketWord
     });
     of_sealed = refl;
     notes = inl refl;
-    rooms = record { walk = begun_laid_out g sealed valid; geometry = refl };
-    within = begun_within g sealed none_asked;
+    rooms = record { walk = begun_laid_out g sealed valid; space = refl };
+    within = begun_within (pass_space g) sealed none_asked;
   }
 
-  few_steps : 0 + (most_steps g + 1) < 2 ^ 64
+  few_steps : 0 + (most_steps (pass_space g) + 1) < 2 ^ 64
   few_steps = omega (arith, valid.few_slots, valid.few_words)
 
-  whole : (plan : Option Planned) → Behind (most_steps g + 1) (course_begun g buckets sealed plan) 0
-  whole plan = all_on (most_steps g + 1) (course_begun g buckets sealed plan) 0 few_steps (begins plan)
+  whole : (plan : Option Planned) → Behind (most_steps (pass_space g) + 1) (course_begun g buckets sealed plan) 0
+  whole plan = all_on (most_steps (pass_space g) + 1) (course_begun g buckets sealed plan) 0 few_steps (begins plan)
 
   -- it is known of the whole course
   pub whole_course : (plan : Option Planned) → (made : ℕ) × OnCourse (course_of g text now buckets sealed plan) made
@@ -201,5 +202,5 @@ module _ (g : Geometry) (text : List ℕ) (now : ℕ) (buckets : List BucketWord
       let b = whole plan in
       let c : Course = course_of g text now buckets sealed plan in
       let within : StepsWithin (traversal g c.walk b.made) none_asked (script_counts c.core) = subst (StepsAfter (traversal g c.walk b.made) none_asked (script_counts c.core)) went b.on.within in
-      let bound : b.made ≤ most_steps g = steps_bounded (traversal g c.walk b.made) none_asked (script_counts c.core) b.on.rooms within (omega (arith, one_falls c.core.stage)) in
+      let bound : b.made ≤ most_steps (pass_space g) = steps_bounded (traversal g c.walk b.made) none_asked (script_counts c.core) b.on.rooms within (omega (arith, one_falls c.core.stage)) in
       omega (arith, bound, b.all went)

@@ -20,11 +20,12 @@ use Rattle.sei_pass.specs.declared.given.Sealed.{Sealed}
 use Rattle.sei_pass.specs.Setting.{sealed_call, is_intact}
 use Rattle.sei_hand.specs.Requests.{limits_of, call_in, parsed_of, parsed_call}
 use Rattle.sei_hand.specs.Served.{Stands}
-use Rattle.sei_hand.proofs.ByteLaws.{found_bytes}
-use Rattle.sei_hand.proofs.RequestLaws.{found_call}
+use Rattle.sei_hand.proofs.PublicHands.{found_bytes}
+use Rattle.sei_hand.proofs.PublicHands.{found_call}
 use Rattle.sei_traverse.specs.declared.turned.Abort.{Abort}
 use Rattle.sei_traverse.specs.declared.turned.State.{State}
 use Rattle.sei_traverse.specs.declared.turned.State.TheVariants.{Went, Finished, Refused, Aborted}
+use Rattle.sei_pass.specs.Spaces.{pass_space}
 use Rattle.sei_traverse.specs.Bounds.{most_steps}
 use Rattle.sei_traverse.specs.Errand.{given_in}
 use Rattle.sei_traverse.specs.Facts.{FactsAfter, IsUnfitInput, IsAborted}
@@ -222,7 +223,7 @@ module _ (g : Geometry) (valid : IsValid g) (text : List ℕ) (bytes : AreBytes 
 
   never_struck : plan ≡ None → fallen c.core.stage ≡ 1 → ⊥
   never_struck none struck =
-      let rest = unplanned_from g text now (most_steps g + 1) (course_begun g buckets sealed plan) 0 (ap script_begin none) in
+      let rest = unplanned_from g text now (most_steps (pass_space g) + 1) (course_begun g buckets sealed plan) 0 (ap script_begin none) in
       omega (arith, struck, ap (λ (x : ScriptState). fallen x.stage) rest.1)
 
   -- what was struck has a plan

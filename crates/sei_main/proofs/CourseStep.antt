@@ -18,6 +18,7 @@ use Rattle.sei_traverse.specs.Facts.{Facts, LendsWanted, Isolates}
 use Rattle.sei_traverse.specs.Noting.{NotesTime}
 use Rattle.sei_traverse.specs.Noting.NotesTime.{Same, Noted}
 use Rattle.sei_traverse.specs.OnWay.{lent_words, TellsAs}
+use Rattle.sei_pass.specs.Spaces.{pass_space}
 use Rattle.sei_traverse.specs.Service.{Given, given_of}
 use Rattle.sei_traverse.specs.State.{TraversalState, IsTraversal, one_more}
 use Rattle.sei_traverse.specs.Step.{Turn, turn, turn_tree, TimedTwice}
@@ -33,7 +34,7 @@ use Rattle.sei_main.proofs.WalkKept.{KeepsWalk, turn_kept}
 
 -- the traversal on this walk, behind so many steps
 abbrev pub traversal : Geometry → Walk → ℕ → TraversalState
-traversal g w steps = record { walk = w; geometry = g; steps = steps; running = true }
+traversal g w steps = record { walk = w; space = pass_space g; steps = steps; running = true }
 
 -- no question was asked, and no strike fell
 abbrev pub none_asked : Counts
@@ -75,7 +76,7 @@ module _ (g : Geometry) (text : List ℕ) (now : ℕ) (w : Walk) (loan : Option 
   gives = function_core script_answer script_next
 
   abbrev given : Given
-  given = given_of (service_for g) text g (bucket_of loan)
+  given = given_of (service_for g) text (pass_space g) (bucket_of loan)
 
   -- how it turns out
   abbrev pub course_step : Turn × ScriptState
@@ -85,9 +86,9 @@ module _ (g : Geometry) (text : List ℕ) (now : ℕ) (w : Walk) (loan : Option 
   runs = record { now = now; later = now; answer = refl; answer_later = refl; runs = runs_scripted script_answer script_next (turn_tree given now now w (words_of loan)) core }
 
   -- the walk keeps its layout, and the words their number
-  pub kept : KeepsWalk g (parsed_call g text) w (words_of loan) course_step.0.walk course_step.0.words
+  pub kept : KeepsWalk (pass_space g) (parsed_call g text) w (words_of loan) course_step.0.walk course_step.0.words
   unfolding runs
-  kept = always gives (λ (y : Turn). KeepsWalk g (parsed_call g text) w (words_of loan) y.walk y.words) (turn_tree given now now w (words_of loan)) core course_step.1 course_step.0 (turn_kept g (parsed_call g text) w (words_of loan) given refl refl now now) runs.runs
+  kept = always gives (λ (y : Turn). KeepsWalk (pass_space g) (parsed_call g text) w (words_of loan) y.walk y.words) (turn_tree given now now w (words_of loan)) core course_step.1 course_step.0 (turn_kept (pass_space g) (parsed_call g text) w (words_of loan) given refl refl now now) runs.runs
 
   -- no other time is noted
   pub notes_now : NotesNow now w.notes.now → NotesNow now course_step.0.walk.notes.now

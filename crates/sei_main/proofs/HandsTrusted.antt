@@ -1,5 +1,5 @@
 -- The errand of each call for the hands of a valid geometry may be trusted.
-use Rattle.std.proofs.Common.{◌≡◌, ℕ, ◌^◌, ◌<◌, List, Option, Some}
+use Rattle.std.proofs.Common.{◌≡◌, ℕ, ◌^◌, ◌<◌, List, Option, Some, refl}
 use Rattle.mc_model.specs.declared.geometry.Geometry.{Geometry}
 use Rattle.mc_model.specs.Bucket.{Bucket}
 use Rattle.mc_model.specs.Call.{Placed}
@@ -9,8 +9,8 @@ use Rattle.sei_stmt.specs.Handling.{Parsed}
 use Rattle.sei_pass.specs.declared.given.Sealed.{Sealed}
 use Rattle.sei_pass.specs.Setting.{sealed_call}
 use Rattle.sei_hand.specs.Requests.{parsed_of, parsed_call}
-use Rattle.sei_hand.specs.Served.{Stands, answer_of}
-use Rattle.sei_hand.proofs.SoundLaws.{sound_hands}
+use Rattle.sei_hand.specs.Served.{Stands, answer_of, space_for}
+use Rattle.sei_hand.proofs.PublicHands.{sound_hands}
 use Rattle.sei_traverse.specs.Errand.{Errand, TellsTime}
 use Rattle.sei_traverse.specs.Sound.{IsServedBy}
 use Rattle.sei_traverse.specs.Trusted.{IsTrusted}
@@ -28,19 +28,20 @@ IsSealedCall g text sealed p = (x : Parsed) → sealed_call (parsed_call g text)
 module _ (g : Geometry) (valid : IsValid g) (text : List ℕ) (bytes : AreBytes text) (sealed : Sealed) (p : Placed) (is : IsSealedCall g text sealed p)
     (taken : List ℕ) (b : Bucket) (held : Stands g taken b) where
   -- the hands serve it
-  pub hands_serve : (clock : Option ℕ) → TellsTime clock → IsServedBy (Stands g) (answer_of g) (errand_told g text sealed p taken clock)
+  pub hands_serve : (clock : Option ℕ) → TellsTime clock → IsServedBy (space_for g) (Stands g) (Stands g) (answer_of g) (errand_told g text sealed p taken clock)
   hands_serve clock tells = record {
     handler = sound_hands g valid;
     bytes = bytes;
     call = is;
+    has = λ nth e. refl;
     clock = tells;
     held = b;
-    stands = held;
+    begins = held;
   }
 
   -- so it may be trusted
   pub hands_are_trusted_by : (clock : Option ℕ) → TellsTime clock → IsTrusted (errand_told g text sealed p taken clock)
-  hands_are_trusted_by clock tells = sound_is_trusted (Stands g) (answer_of g) (errand_told g text sealed p taken clock) (hands_serve clock tells)
+  hands_are_trusted_by clock tells = sound_is_trusted (space_for g) (Stands g) (Stands g) (answer_of g) (errand_told g text sealed p taken clock) (hands_serve clock tells)
 
   -- where the clock tells a time of 64 bits
   pub hands_are_trusted : (now : ℕ) → now < 2 ^ 64 → IsTrusted (errand_for g text sealed p taken now)

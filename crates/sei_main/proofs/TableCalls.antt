@@ -14,17 +14,17 @@ use Rattle.mc_model.specs.Server.{IsValid}
 use Rattle.mc_text.specs.Meaning.{calls_of}
 use Rattle.sei_pass.specs.Setting.{sealed_call, call_at}
 use Rattle.sei_hand.specs.Requests.{calls_in, call_in, count_of_calls, parsed_of, parsed_call}
-use Rattle.sei_hand.proofs.ByteLaws.{found_bytes}
-use Rattle.sei_hand.proofs.RequestLaws.{request_spelled, found_call}
+use Rattle.sei_hand.proofs.PublicHands.{found_bytes}
+use Rattle.sei_hand.proofs.PublicHands.{request_spelled, found_call}
 use Rattle.sei_main.specs.Asked.{IsCallAt}
 use Rattle.sei_main.specs.State.{limits_of}
 use Rattle.sei_traverse.specs.Service.{has_call}
 use Rattle.sei_traverse.proofs.Branches.{below}
 use Rattle.sei_main.proofs.TableLaws.{IsGood}
-use Rattle.sei_pass.specs.State.{input_room}
+use Rattle.sei_pass.specs.Spaces.{input_room}
 use Rattle.sei_stmt.specs.Handling.{Parsed, parsed_words}
 use Rattle.sei_hand.specs.ReadCall.{IsReadCall}
-use Rattle.sei_hand.proofs.InputLaws.{length_input_words}
+use Rattle.sei_hand.proofs.PublicHands.{length_input_words}
 
 -- the call is there, and is a good one
 pub record AskedOf (g : Geometry) (text : List ℕ) (nth : ℕ) (p : Placed) : Type 0 where

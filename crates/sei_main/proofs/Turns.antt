@@ -16,6 +16,8 @@ use Rattle.sei_traverse.specs.declared.turned.Want.{Want}
 use Rattle.sei_traverse.specs.declared.turned.Want.TheVariants.{Nothing, Take, Enter, Give, Send}
 use Rattle.sei_traverse.specs.declared.walk.Walk.{Walk}
 use Rattle.sei_traverse.specs.Bounds.{StepsWithin, StepsAfter}
+use Rattle.sei_pass.specs.declared.spaces.PassSpace.{PassSpace}
+use Rattle.sei_pass.specs.Spaces.{pass_space}
 use Rattle.sei_traverse.specs.Service.{given_of}
 use Rattle.sei_traverse.specs.State.{TraversalState, IsTraversal, one_more, is_running}
 use Rattle.sei_traverse.specs.Step.{Turn, turn, turn_tree, TimedTwice}
@@ -28,17 +30,17 @@ use Rattle.sei_main.specs.Turning.{IsStep, IsTurn}
 -- One step.
 
 -- what the code's step does is what the definition's does
-pub turn_is : (g : Geometry) (text : List ℕ) (now : ℕ) (loan : Option BucketWords) (words : List ℕ) (old : TraversalState) (walk : Walk) (state : State) (core later : ScriptState) → old.geometry ≡ g →
-    TimedTwice (function_core script_answer script_next) (Some now) (λ now later. turn_tree (given_of (service_for g) text old.geometry (bucket_of loan)) now later old.walk (words_of loan)) core later (turn walk words state) →
+pub turn_is : (g : Geometry) (text : List ℕ) (now : ℕ) (loan : Option BucketWords) (words : List ℕ) (old : TraversalState) (walk : Walk) (state : State) (core later : ScriptState) → old.space ≡ pass_space g →
+    TimedTwice (function_core script_answer script_next) (Some now) (λ now later. turn_tree (given_of (service_for g) text old.space (bucket_of loan)) now later old.walk (words_of loan)) core later (turn walk words state) →
     turned g text now old.walk loan core ≡ (record { walk = walk; words = words; state = state }, later)
 turn_is g text now loan words old walk state core later e t =
-    let tree = λ (x : Geometry) (a b : ℕ). turn_tree (given_of (service_for g) text x (bucket_of loan)) a b old.walk (words_of loan) in
+    let tree = λ (x : PassSpace) (a b : ℕ). turn_tree (given_of (service_for g) text x (bucket_of loan)) a b old.walk (words_of loan) in
     let gives = function_core script_answer script_next in
     let x : Turn = turn walk words state in
-    let first : Runs gives (tree old.geometry now t.later) core later x = subst (λ (n : ℕ). Runs gives (tree old.geometry n t.later) core later x) t.answer t.runs in
-    let both : Runs gives (tree old.geometry now now) core later x = subst (λ (n : ℕ). Runs gives (tree old.geometry now n) core later x) t.answer_later first in
-    let here : Runs gives (tree g now now) core later x = subst (λ (y : Geometry). Runs gives (tree y now now) core later x) e both in
-    sym (scripted_runs script_answer script_next (tree g now now) core later x here)
+    let first : Runs gives (tree old.space now t.later) core later x = subst (λ (n : ℕ). Runs gives (tree old.space n t.later) core later x) t.answer t.runs in
+    let both : Runs gives (tree old.space now now) core later x = subst (λ (n : ℕ). Runs gives (tree old.space now n) core later x) t.answer_later first in
+    let here : Runs gives (tree (pass_space g) now now) core later x = subst (λ (y : PassSpace). Runs gives (tree y now now) core later x) e both in
+    sym (scripted_runs script_answer script_next (tree (pass_space g) now now) core later x here)
 
 -- the same bucket of the same geometry
 pub same_place : (a b : BucketWords) → place_of (Some a) ≡ place_of (Some b) → (a.bucket ≡ b.bucket) × (a.geometry ≡ b.geometry)
@@ -72,7 +74,7 @@ none_put : (buckets : List BucketWords) (lent : Option ℕ) (words : List ℕ) �
 none_put buckets None words = refl
 none_put buckets (Some b) words = refl
 
-module _ (g : Geometry) (text : List ℕ) (now : ℕ) (buckets : List BucketWords) (lent : Option ℕ) (old new : TraversalState) (core later : ScriptState) (t : Turned) (same : old.geometry ≡ g) where
+module _ (g : Geometry) (text : List ℕ) (now : ℕ) (buckets : List BucketWords) (lent : Option ℕ) (old new : TraversalState) (core later : ScriptState) (t : Turned) (same : old.space ≡ pass_space g) where
   -- a step with the words of a bucket
   pub turned_with : (b : ℕ) (w left : BucketWords) → lent ≡ Some b → slice_get buckets b ≡ Some w → IsStep g text now (Some w) (Some left) old new core later t →
       IsTurn g text now lent old new buckets (slice_set buckets b left) core later t
@@ -82,7 +84,7 @@ module _ (g : Geometry) (text : List ℕ) (now : ℕ) (buckets : List BucketWord
     buckets = put_back_is buckets b w left there st.place ∙ ap (λ (l : Option ℕ). put_back buckets l (loan_in buckets l) left.words) (sym e);
     want = st.want;
     sealed = st.sealed;
-    geometry = st.geometry;
+    space = st.space;
     steps = st.steps;
     running = st.running;
     rooms = st.rooms;
@@ -97,7 +99,7 @@ module _ (g : Geometry) (text : List ℕ) (now : ℕ) (buckets : List BucketWord
     buckets = sym (none_put buckets lent []) ∙ ap (λ (o : Option BucketWords). put_back buckets lent o []) (sym none);
     want = st.want;
     sealed = st.sealed;
-    geometry = st.geometry;
+    space = st.space;
     steps = st.steps;
     running = st.running;
     rooms = st.rooms;
@@ -129,7 +131,7 @@ pub record Underway (g : Geometry) (text : List ℕ) (now limit : ℕ) (start : 
   pub rest : course_from g text now (limit - k) (course_at t buckets lent core served) ≡ course_from g text now limit start
   pub going : served.state ≡ Went
   pub running : t.running ≡ true
-  pub geometry : t.geometry ≡ g
+  pub space : t.space ≡ pass_space g
   pub sealed : t.walk.sealed ≡ start.walk.sealed
   pub laid_out : All (IsOfGeometry g) buckets
   pub steps : t.steps ≡ k
@@ -168,7 +170,7 @@ module _ (g : Geometry) (text : List ℕ) (now limit : ℕ) (start : Course) (k 
         ∙ onward;
     going = same ∙ went;
     running = st.running ∙ ap is_running went;
-    geometry = st.geometry ∙ u.geometry;
+    space = st.space ∙ u.space;
     sealed = st.sealed ∙ u.sealed;
     laid_out = all;
     steps = st.steps ∙ ap one_more u.steps ∙ omega (arith, small);

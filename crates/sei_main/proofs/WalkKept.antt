@@ -5,10 +5,10 @@ use Rattle.std.specs.declared.result.Result.{Result}
 use Rattle.std.specs.declared.result.Result.TheVariants.{Ok, Err}
 use Rattle.std.proofs.lemmas.Bool.{ltb-true}
 use Rattle.std.proofs.lemmas.List.{length-set}
-use Rattle.mc_model.specs.declared.geometry.Geometry.{Geometry}
+use Rattle.sei_pass.specs.declared.spaces.PassSpace.{PassSpace}
 use Rattle.sei_code.specs.Kept.{Kept}
 use Rattle.sei_fault.specs.declared.cause.AbortCause.{AbortCause}
-use Rattle.sei_fault.specs.declared.cause.AbortCause.TheVariants.{Budget, Range as OutOfRange, Differs as Differing}
+use Rattle.sei_fault.specs.declared.cause.AbortCause.TheVariants.{Range as OutOfRange, Differs as Differing}
 use Rattle.sei_fault.specs.declared.place.Act.{Act}
 use Rattle.sei_fault.specs.declared.place.Phase.{Phase}
 use Rattle.sei_fault.specs.declared.place.Phase.TheVariants.{Guard, Take, First, Restore, Second, Compare, Verify, Enter, Give, Send, Done as Last}
@@ -19,16 +19,15 @@ use Rattle.sei_fault.specs.Tree.{Tree, bound, Always}
 use Rattle.sei_fault.specs.Tree.Tree.{Done as Ended, Ask}
 use Rattle.sei_gate.specs.Closing.{risen}
 use Rattle.sei_log.specs.declared.log.Change.{Change}
-use Rattle.sei_stmt.specs.declared.stmt.Stmt.{Stmt}
 use Rattle.sei_stmt.specs.Handling.{Parsed, parsed_words, refilled}
-use Rattle.sei_stmt.specs.Machine.{Machine, Setting, Outcome, After}
-use Rattle.sei_stmt.specs.Machine as machines
+use Rattle.sei_stmt.specs.Machine.{Machine, Setting, Outcome, After, one_made}
 use Rattle.sei_stmt.specs.Machine.Outcome.{Next, Halted, Bad}
-use Rattle.sei_stmt.specs.Statements.{statement_tree, found_tree, step_tree}
+use Rattle.sei_stmt.specs.Statements.{statement_tree, step_tree}
+use Rattle.sei_stmt.proofs.PublicStatementEnds.{by_statement}
 use Rattle.sei_pass.specs.declared.given.Which.TheVariants.{Making, Reading}
 use Rattle.sei_pass.specs.declared.given.Sealed.{Sealed}
 use Rattle.sei_pass.specs.Setting.{sealed_call}
-use Rattle.sei_pass.specs.State.{PassState, IsPass, budget_of, input_room, bytes_room}
+use Rattle.sei_pass.specs.State.{PassState, IsPass}
 use Rattle.sei_pass.proofs.RoomLaws.{Keeps, keeps}
 use Rattle.sei_restore.specs.Undoing.{Undone, undo_word, undo_at}
 use Rattle.sei_compare.specs.Comparing.{entry_tree, codes_tree, word_at, wire_tree}
@@ -42,7 +41,7 @@ use Rattle.sei_traverse.specs.PassActs.{pass_of, first_machine, second_machine, 
 use Rattle.sei_traverse.specs.Phases.{guard_call, store_wanted, take_wanted, undone_as, undone_to, compared, entries_to, outputs_to, word_to, reply_of, copy_bytes, wire_to, verify_copy, send_want}
 use Rattle.sei_traverse.specs.Service.{Given, setting_in}
 use Rattle.sei_traverse.specs.Step.{Turn, act_in, act_tree, site_of, skipped, goes, goes_on, once, unless_ended, twice, turn_as, turn_at, turn_tree}
-use Rattle.sei_traverse.specs.Walks.{IsWalk, log_room}
+use Rattle.sei_traverse.specs.Walks.{IsWalk}
 use Rattle.sei_traverse.proofs.StepsBound.{always_bound, always_any}
 use Rattle.sei_main.proofs.WordsLast.{Lasts, lasts}
 
@@ -69,48 +68,42 @@ record Ran (given : List ℕ) (budget : ℕ) (m : Machine) (x : After) : Type 0 
 stays_so : (given : List ℕ) (budget : ℕ) (m : Machine) (o : Outcome) → Ran given budget m (record { machine = m; outcome = o })
 stays_so given budget m o = record { registers = refl; input = refl; output = refl; bytes = refl; log = refl; made = λ h. h; fits = λ h. h; log_fits = λ h. h; bytes_fit = λ h. h; input_fits = λ few h. h; words = refl }
 
-ran_counted : (s : Setting) (i : ℕ) (m : Machine) (st : Stmt) (enough : Bool) → nat_lt m.made s.budget ≡ enough →
-    Always (Ran (parsed_words s.parsed) s.budget m) (if enough then statement_tree s i (record m { made = m.made + 1 }) st else machines.ends m (Bad Budget))
-ran_counted s i m st true e =
-    let from : Machine = record m { made = m.made + 1 } in
-    always_both (Keeps (parsed_words s.parsed) from) (Lasts from) (Ran (parsed_words s.parsed) s.budget m) (statement_tree s i from st)
+ran_step : (s : Setting) (i : ℕ) (m : Machine) → Always (Ran (parsed_words s.parsed) s.budget m) (step_tree s i m)
+ran_step s i m = by_statement s i m (Always (Ran (parsed_words s.parsed) s.budget m)) (λ cause. stays_so (parsed_words s.parsed) s.budget m (Bad cause)) (λ st is enough.
+    let from : Machine = one_made m in
+    always_both (λ (x : After). Keeps (parsed_words s.parsed) from x.machine) (λ (x : After). Lasts from x.machine) (Ran (parsed_words s.parsed) s.budget m) (statement_tree s i from st)
     (λ x k l. record {
       registers = k.registers;
       input = k.input;
       output = k.output;
       bytes = k.bytes;
       log = k.log;
-      made = λ h. omega (arith, k.made, ltb-true m.made s.budget e);
+      made = λ h. omega (arith, k.made, ltb-true m.made s.budget enough);
       fits = k.fits;
       log_fits = k.log_fits;
       bytes_fit = k.bytes_fit;
       input_fits = k.input_fits;
       words = l;
     })
-    (keeps s i from st) (lasts s i from st)
-ran_counted s i m st false e = stays_so (parsed_words s.parsed) s.budget m (Bad Budget)
-
-ran_found : (s : Setting) (i : ℕ) (m : Machine) (o : Option Stmt) → Always (Ran (parsed_words s.parsed) s.budget m) (found_tree s i m o)
-ran_found s i m None = stays_so (parsed_words s.parsed) s.budget m _
-ran_found s i m (Some st) = ran_counted s i m st (nat_lt m.made s.budget) refl
+    (keeps s i from st) (lasts s i from st))
 
 -- the input words of the sealed call go in
-abbrev pub FitsIn : Geometry → (ℕ → Option Parsed) → Sealed → Type 0
-FitsIn k parsed sealed = length (parsed_words (sealed_call parsed sealed.nth)) ≤ input_room k
+abbrev pub FitsIn : PassSpace → (ℕ → Option Parsed) → Sealed → Type 0
+FitsIn k parsed sealed = length (parsed_words (sealed_call parsed sealed.nth)) ≤ k.input
 
--- a walk and the words behind another one, in this geometry and for these calls
-pub record KeepsWalk (k : Geometry) (parsed : ℕ → Option Parsed) (w : Walk) (words : List ℕ) (v : Walk) (left : List ℕ) : Type 0 where
+-- a walk and the words behind another one, in this space and for these calls
+pub record KeepsWalk (k : PassSpace) (parsed : ℕ → Option Parsed) (w : Walk) (words : List ℕ) (v : Walk) (left : List ℕ) : Type 0 where
   pub sealed : v.sealed ≡ w.sealed
-  pub geometry : v.first.geometry ≡ w.first.geometry
-  pub walk : IsWalk w → w.first.geometry ≡ k → FitsIn k parsed w.sealed → IsWalk v
+  pub space : v.first.space ≡ w.first.space
+  pub walk : IsWalk w → w.first.space ≡ k → FitsIn k parsed w.sealed → IsWalk v
   pub long : length left ≡ length words
 
-module _ (k : Geometry) (parsed : ℕ → Option Parsed) where
+module _ (k : PassSpace) (parsed : ℕ → Option Parsed) where
   behind : (w v u : Walk) (words left last : List ℕ) → KeepsWalk k parsed w words v left → KeepsWalk k parsed v left u last → KeepsWalk k parsed w words u last
   behind w v u words left last a b = record {
     sealed = b.sealed ∙ a.sealed;
-    geometry = b.geometry ∙ a.geometry;
-    walk = λ is here few. b.walk (a.walk is here few) (a.geometry ∙ here) (subst (FitsIn k parsed) (sym a.sealed) few);
+    space = b.space ∙ a.space;
+    walk = λ is here few. b.walk (a.walk is here few) (a.space ∙ here) (subst (FitsIn k parsed) (sym a.sealed) few);
     long = b.long ∙ a.long;
   }
 
@@ -119,16 +112,16 @@ module _ (k : Geometry) (parsed : ℕ → Option Parsed) where
       length left ≡ length words → KeepsWalk k parsed w words v left
   like w v words left sealed first second first_log second_log wire long = record {
     sealed = sealed;
-    geometry = ap (λ (p : PassState). p.geometry) first;
+    space = ap (λ (p : PassState). p.space) first;
     walk = λ is here few. record {
       first = subst IsPass (sym first) is.first;
       second = subst IsPass (sym second) is.second;
-      same = ap (λ (p : PassState). p.geometry) second ∙ is.same ∙ sym (ap (λ (p : PassState). p.geometry) first);
-      first_log = subst (λ (p : PassState). length v.first_log.items ≤ log_room p.geometry) (sym first) (subst (λ (l : Kept Change). length l.items ≤ log_room w.first.geometry) (sym first_log) is.first_log);
-      second_log = subst (λ (p : PassState). length v.second_log.items ≤ log_room p.geometry) (sym first) (subst (λ (l : Kept Change). length l.items ≤ log_room w.first.geometry) (sym second_log) is.second_log);
-      first_room = ap (λ (l : Kept Change). l.room) first_log ∙ is.first_room ∙ sym (ap (λ (p : PassState). log_room p.geometry) first);
-      second_room = ap (λ (l : Kept Change). l.room) second_log ∙ is.second_room ∙ sym (ap (λ (p : PassState). log_room p.geometry) first);
-      wire_room = ap (λ (l : Kept ℕ). l.room) wire ∙ is.wire_room ∙ sym (ap (λ (p : PassState). bytes_room p.geometry) first);
+      same = ap (λ (p : PassState). p.space) second ∙ is.same ∙ sym (ap (λ (p : PassState). p.space) first);
+      first_log = subst (λ (p : PassState). length v.first_log.items ≤ p.space.log) (sym first) (subst (λ (l : Kept Change). length l.items ≤ w.first.space.log) (sym first_log) is.first_log);
+      second_log = subst (λ (p : PassState). length v.second_log.items ≤ p.space.log) (sym first) (subst (λ (l : Kept Change). length l.items ≤ w.first.space.log) (sym second_log) is.second_log);
+      first_room = ap (λ (l : Kept Change). l.room) first_log ∙ is.first_room ∙ sym (ap (λ (p : PassState). p.space.log) first);
+      second_room = ap (λ (l : Kept Change). l.room) second_log ∙ is.second_room ∙ sym (ap (λ (p : PassState). p.space.log) first);
+      wire_room = ap (λ (l : Kept ℕ). l.room) wire ∙ is.wire_room ∙ sym (ap (λ (p : PassState). p.space.bytes) first);
       wire_fits = subst (λ (l : Kept ℕ). length l.items ≤ l.room) (sym wire) is.wire_fits;
     };
     long = long;
@@ -138,7 +131,7 @@ module _ (k : Geometry) (parsed : ℕ → Option Parsed) where
   copied : (w : Walk) (words left bytes : List ℕ) → length bytes ≤ length (reply_of w) → length left ≡ length words → KeepsWalk k parsed w words (record w { wire = refilled w.wire bytes }) left
   copied w words left bytes most long = record {
     sealed = refl;
-    geometry = refl;
+    space = refl;
     walk = λ is here few. record {
       first = is.first;
       second = is.second;
@@ -148,16 +141,17 @@ module _ (k : Geometry) (parsed : ℕ → Option Parsed) where
       first_room = is.first_room;
       second_room = is.second_room;
       wire_room = is.wire_room;
-      wire_fits = omega (arith, most, is.second.bytes_fit, is.second.bytes, ap bytes_room is.same, is.wire_room);
+      wire_fits = omega (arith, most, is.second.bytes_fit, is.second.bytes, ap (λ (s : PassSpace). s.bytes) is.same, is.wire_room);
     };
     long = long;
   }
 
   -- behind a step of a pass
-  pass_kept : (p : PassState) (m : Machine) (given : List ℕ) (budget : ℕ) (x : After) → length given ≤ input_room p.geometry → budget ≡ budget_of p.geometry → Ran given budget m x → m.registers ≡ p.registers → m.input ≡ p.input → m.output ≡ p.output → m.bytes ≡ p.bytes → m.made ≡ p.made →
+  pass_kept : (p : PassState) (m : Machine) (given : List ℕ) (budget : ℕ) (x : After) → length given ≤ p.space.input → budget ≡ p.space.budget → Ran given budget m x → m.registers ≡ p.registers → m.input ≡ p.input → m.output ≡ p.output → m.bytes ≡ p.bytes → m.made ≡ p.made →
       IsPass p → IsPass (pass_of p x.machine)
   pass_kept p m given budget x few is r registers input output bytes made h = record {
     valid = h.valid;
+    space = h.space;
     registers = r.registers ∙ ap length registers ∙ h.registers;
     input = r.input ∙ ap (λ (l : Kept ℕ). l.room) input ∙ h.input;
     output = r.output ∙ ap (λ (l : Kept ℕ). l.room) output ∙ h.output;
@@ -168,13 +162,13 @@ module _ (k : Geometry) (parsed : ℕ → Option Parsed) where
     input_fits = r.input_fits (subst (λ (l : Kept ℕ). length given ≤ l.room) (sym input) (omega (arith, few, h.input))) (subst (λ (l : Kept ℕ). length l.items ≤ l.room) (sym input) h.input_fits);
   }
 
-  first_kept : (w : Walk) (words : List ℕ) (x : After) → Ran (parsed_words (sealed_call parsed w.sealed.nth)) (budget_of k) (first_machine w words) x → KeepsWalk k parsed w words (with_first w x.machine) x.machine.words
+  first_kept : (w : Walk) (words : List ℕ) (x : After) → Ran (parsed_words (sealed_call parsed w.sealed.nth)) k.budget (first_machine w words) x → KeepsWalk k parsed w words (with_first w x.machine) x.machine.words
   first_kept w words x r = record {
     sealed = refl;
-    geometry = refl;
+    space = refl;
     walk = λ is here few. record {
-      first = pass_kept w.first (first_machine w words) (parsed_words (sealed_call parsed w.sealed.nth)) (budget_of k) x
-          (subst (λ (q : Geometry). length (parsed_words (sealed_call parsed w.sealed.nth)) ≤ input_room q) (sym here) few) (ap budget_of (sym here)) r refl refl refl refl refl is.first;
+      first = pass_kept w.first (first_machine w words) (parsed_words (sealed_call parsed w.sealed.nth)) k.budget x
+          (subst (λ (q : PassSpace). length (parsed_words (sealed_call parsed w.sealed.nth)) ≤ q.input) (sym here) few) (ap (λ (s : PassSpace). s.budget) (sym here)) r refl refl refl refl refl is.first;
       second = is.second;
       same = is.same;
       first_log = let fits : length x.machine.log.items ≤ x.machine.log.room = r.log_fits (omega (arith, is.first_log, is.first_room)) in omega (arith, fits, r.log, is.first_room);
@@ -187,14 +181,14 @@ module _ (k : Geometry) (parsed : ℕ → Option Parsed) where
     long = r.words;
   }
 
-  second_kept : (w : Walk) (words : List ℕ) (x : After) → Ran (parsed_words (sealed_call parsed w.sealed.nth)) (budget_of k) (second_machine w words) x → KeepsWalk k parsed w words (with_second w x.machine) x.machine.words
+  second_kept : (w : Walk) (words : List ℕ) (x : After) → Ran (parsed_words (sealed_call parsed w.sealed.nth)) k.budget (second_machine w words) x → KeepsWalk k parsed w words (with_second w x.machine) x.machine.words
   second_kept w words x r = record {
     sealed = refl;
-    geometry = refl;
+    space = refl;
     walk = λ is here few. record {
       first = is.first;
-      second = pass_kept w.second (second_machine w words) (parsed_words (sealed_call parsed w.sealed.nth)) (budget_of k) x
-          (subst (λ (q : Geometry). length (parsed_words (sealed_call parsed w.sealed.nth)) ≤ input_room q) (sym (is.same ∙ here)) few) (ap budget_of (sym (is.same ∙ here))) r refl refl refl refl refl is.second;
+      second = pass_kept w.second (second_machine w words) (parsed_words (sealed_call parsed w.sealed.nth)) k.budget x
+          (subst (λ (q : PassSpace). length (parsed_words (sealed_call parsed w.sealed.nth)) ≤ q.input) (sym (is.same ∙ here)) few) (ap (λ (s : PassSpace). s.budget) (sym (is.same ∙ here))) r refl refl refl refl refl is.second;
       same = is.same;
       first_log = is.first_log;
       second_log = let fits : length x.machine.log.items ≤ x.machine.log.room = r.log_fits (omega (arith, is.second_log, is.second_room)) in omega (arith, fits, r.log, is.second_room);
@@ -238,13 +232,13 @@ module _ (k : Geometry) (parsed : ℕ → Option Parsed) where
     take_room v words true h = behind w v _ before words words h (like v _ words words refl refl refl refl refl refl refl)
     take_room v words false h = h
 
-    take_closed : (g : Given) (words : List ℕ) → length words ≡ length before → (yes : Bool) → Always KeptBy (closed_to w words (take_wanted g.geometry words) (yes, if yes then risen w.gate.done else w.gate.done))
+    take_closed : (g : Given) (words : List ℕ) → length words ≡ length before → (yes : Bool) → Always KeptBy (closed_to w words (take_wanted g.space.geometry words) (yes, if yes then risen w.gate.done else w.gate.done))
     take_closed g words long true =
         let v : Walk = record w { gate = record { done = risen w.gate.done } } in
-        take_room v words (nat_lt w.wanted g.geometry.buckets) (so v words refl refl refl refl refl refl long)
+        take_room v words (nat_lt w.wanted g.space.geometry.buckets) (so v words refl refl refl refl refl refl long)
     take_closed g words long false = so (record w { gate = record { done = w.gate.done } }) words refl refl refl refl refl refl long
 
-    kept_take : (g : Given) (words : List ℕ) → length words ≡ length before → (b : Bool) → Always KeptBy (if b then store_wanted g w words else closing_then Take w words (take_wanted g.geometry words))
+    kept_take : (g : Given) (words : List ℕ) → length words ≡ length before → (b : Bool) → Always KeptBy (if b then store_wanted g w words else closing_then Take w words (take_wanted g.space.geometry words))
     kept_take g words long true = λ b wanted. so (record w { wanted = wanted }) words refl refl refl refl refl refl long
     kept_take g words long false = λ yes. take_closed g words long yes
 
@@ -258,21 +252,21 @@ module _ (k : Geometry) (parsed : ℕ → Option Parsed) where
     second_onward v words Halted h = kept_closes Second v words Nothing (at Compare 0) h
     second_onward v words (Bad cause) h = h
 
-    kept_first : (g : Given) (now index : ℕ) (words : List ℕ) → g.geometry ≡ k → g.service.parsed g.input ≡ parsed → length words ≡ length before → Always KeptBy (first_tree g now index w words)
+    kept_first : (g : Given) (now index : ℕ) (words : List ℕ) → g.space ≡ k → g.service.parsed g.input ≡ parsed → length words ≡ length before → Always KeptBy (first_tree g now index w words)
     kept_first g now index words is of long =
         let s : Setting = setting_in g Making w.sealed now in
-        always_bound (Ran (parsed_words (sealed_call parsed w.sealed.nth)) (budget_of k) (first_machine w words)) KeptBy (step_tree s index (first_machine w words)) (first_to w)
+        always_bound (Ran (parsed_words (sealed_call parsed w.sealed.nth)) k.budget (first_machine w words)) KeptBy (step_tree s index (first_machine w words)) (first_to w)
         (λ x r. first_onward (with_first w x.machine) x.machine.words x.outcome (behind w w _ before words _ (same words long) (first_kept w words x r)))
-        (subst (λ (f : ℕ → Option Parsed). Always (Ran (parsed_words (sealed_call f w.sealed.nth)) (budget_of k) (first_machine w words)) (step_tree s index (first_machine w words))) of
-        (subst (λ (b : ℕ). Always (Ran (parsed_words s.parsed) b (first_machine w words)) (step_tree s index (first_machine w words))) (ap budget_of is) (ran_found s index (first_machine w words) (slice_get s.statements index))))
+        (subst (λ (f : ℕ → Option Parsed). Always (Ran (parsed_words (sealed_call f w.sealed.nth)) k.budget (first_machine w words)) (step_tree s index (first_machine w words))) of
+        (subst (λ (b : ℕ). Always (Ran (parsed_words s.parsed) b (first_machine w words)) (step_tree s index (first_machine w words))) (ap (λ (s : PassSpace). s.budget) is) (ran_step s index (first_machine w words))))
 
-    kept_second : (g : Given) (now index : ℕ) (words : List ℕ) → g.geometry ≡ k → g.service.parsed g.input ≡ parsed → length words ≡ length before → Always KeptBy (second_tree g now index w words)
+    kept_second : (g : Given) (now index : ℕ) (words : List ℕ) → g.space ≡ k → g.service.parsed g.input ≡ parsed → length words ≡ length before → Always KeptBy (second_tree g now index w words)
     kept_second g now index words is of long =
         let s : Setting = setting_in g Reading w.sealed now in
-        always_bound (Ran (parsed_words (sealed_call parsed w.sealed.nth)) (budget_of k) (second_machine w words)) KeptBy (step_tree s index (second_machine w words)) (second_to w)
+        always_bound (Ran (parsed_words (sealed_call parsed w.sealed.nth)) k.budget (second_machine w words)) KeptBy (step_tree s index (second_machine w words)) (second_to w)
         (λ x r. second_onward (with_second w x.machine) x.machine.words x.outcome (behind w w _ before words _ (same words long) (second_kept w words x r)))
-        (subst (λ (f : ℕ → Option Parsed). Always (Ran (parsed_words (sealed_call f w.sealed.nth)) (budget_of k) (second_machine w words)) (step_tree s index (second_machine w words))) of
-        (subst (λ (b : ℕ). Always (Ran (parsed_words s.parsed) b (second_machine w words)) (step_tree s index (second_machine w words))) (ap budget_of is) (ran_found s index (second_machine w words) (slice_get s.statements index))))
+        (subst (λ (f : ℕ → Option Parsed). Always (Ran (parsed_words (sealed_call f w.sealed.nth)) k.budget (second_machine w words)) (step_tree s index (second_machine w words))) of
+        (subst (λ (b : ℕ). Always (Ran (parsed_words s.parsed) b (second_machine w words)) (step_tree s index (second_machine w words))) (ap (λ (s : PassSpace). s.budget) is) (ran_step s index (second_machine w words))))
 
     -- undoing leaves as many words
     undo_word_long : (words : List ℕ) (a was : ℕ) (o : Option ℕ) → Always (λ (u : Undone). length u.words ≡ length words) (undo_word words a was o)
@@ -335,7 +329,7 @@ module _ (k : Geometry) (parsed : ℕ → Option Parsed) where
     kept_verify index words long false = behind_words index words long (index == length w.second_log.items)
 
     -- each act
-    kept_act : (g : Given) (now : ℕ) (phase : Phase) (index : ℕ) (words : List ℕ) → g.geometry ≡ k → g.service.parsed g.input ≡ parsed → length words ≡ length before → Always KeptBy (act_in g now phase index w words)
+    kept_act : (g : Given) (now : ℕ) (phase : Phase) (index : ℕ) (words : List ℕ) → g.space ≡ k → g.service.parsed g.input ≡ parsed → length words ≡ length before → Always KeptBy (act_in g now phase index w words)
     kept_act g now Guard index words is of long = λ yes. kept_guard g words long yes
     kept_act g now Take index words is of long = kept_take g words long (index == 0)
     kept_act g now First index words is of long = kept_first g now index words is of long
@@ -350,7 +344,7 @@ module _ (k : Geometry) (parsed : ℕ → Option Parsed) where
 
   -- a whole step
 
-  module _ (w : Walk) (before : List ℕ) (g : Given) (here : g.geometry ≡ k) (of : g.service.parsed g.input ≡ parsed) where
+  module _ (w : Walk) (before : List ℕ) (g : Given) (here : g.space ≡ k) (of : g.service.parsed g.input ≡ parsed) where
     abbrev KeptOn : Turn → Type 0
     KeptOn x = KeepsWalk k parsed w before x.walk x.words
 

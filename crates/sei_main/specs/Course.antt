@@ -14,6 +14,7 @@ use Rattle.sei_traverse.specs.declared.turned.State.TheVariants.{Went, Finished,
 use Rattle.sei_traverse.specs.declared.turned.Want.{Want}
 use Rattle.sei_traverse.specs.declared.turned.Want.TheVariants.{Take, Enter, Give, Send}
 use Rattle.sei_traverse.specs.declared.walk.Walk.{Walk}
+use Rattle.sei_pass.specs.Spaces.{pass_space}
 use Rattle.sei_traverse.specs.Bounds.{most_steps}
 use Rattle.sei_traverse.specs.Phases.{reply_of}
 use Rattle.sei_traverse.specs.Service.{given_of}
@@ -69,7 +70,7 @@ unserved = record { entered = None; message = []; state = Went }
 module _ (g : Geometry) (text : List ℕ) (now : ℕ) where
   -- one step of the traversal, on what is lent, and the core behind it
   abbrev pub turned : Walk → Option BucketWords → ScriptState → Turn × ScriptState
-  turned w loan core = scripted script_answer script_next (turn_tree (given_of (service_for g) text g (bucket_of loan)) now now w (words_of loan)) core
+  turned w loan core = scripted script_answer script_next (turn_tree (given_of (service_for g) text (pass_space g) (bucket_of loan)) now now w (words_of loan)) core
 
   -- the words are put back, and what the step wants is done
   abbrev pub met : Course → Turn × ScriptState → Course
@@ -96,8 +97,8 @@ module _ (g : Geometry) (text : List ℕ) (now : ℕ) where
 
 -- before the first step
 abbrev pub course_begun : Geometry → List BucketWords → Sealed → Option Planned → Course
-course_begun g buckets sealed plan = record { walk = begun_walk g sealed; buckets = buckets; lent = None; core = script_begin plan; served = unserved }
+course_begun g buckets sealed plan = record { walk = begun_walk (pass_space g) sealed; buckets = buckets; lent = None; core = script_begin plan; served = unserved }
 
 -- the traversal of a call to its end: with one fault at most it makes no more than `most_steps`
 abbrev pub course_of : Geometry → List ℕ → ℕ → List BucketWords → Sealed → Option Planned → Course
-course_of g text now buckets sealed plan = course_from g text now (most_steps g + 1) (course_begun g buckets sealed plan)
+course_of g text now buckets sealed plan = course_from g text now (most_steps (pass_space g) + 1) (course_begun g buckets sealed plan)

@@ -4,6 +4,7 @@ use Rattle.mc_model.specs.declared.geometry.Geometry.{Geometry}
 use Rattle.mc_model.specs.Call.{Placed}
 use Rattle.mc_render.specs.Rendering.{rendered}
 use Rattle.sei_pass.specs.declared.given.Sealed.{Sealed}
+use Rattle.sei_pass.specs.Spaces.{pass_space}
 use Rattle.sei_hand.specs.Commands.{hands_table}
 use Rattle.sei_hand.specs.Requests.{count_of_calls, parsed_call, parsed_of}
 use Rattle.sei_traverse.specs.Errand.{Errand}
@@ -18,7 +19,7 @@ abbrev pub errand_for : Geometry → List ℕ → Sealed → Placed → List ℕ
 errand_for g text sealed p taken now = record {
   service = service_for g;
   input = text;
-  geometry = g;
+  space = pass_space g;
   sealed = sealed;
   call = parsed_of g p;
   taken = taken;

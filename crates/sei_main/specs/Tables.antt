@@ -4,6 +4,7 @@ use Rattle.std.specs.List.{range_with_len}
 use Rattle.mc_model.specs.declared.geometry.Geometry.{Geometry}
 use Rattle.mc_model.specs.Server.{IsValid, Server, room_of, bucket_at}
 use Rattle.sei_words.specs.Words.{BucketWords, fresh_words}
+use Rattle.sei_pass.specs.Spaces.{pass_space}
 use Rattle.sei_hand.specs.Served.{Stands}
 use Rattle.sei_traverse.specs.State.{TraversalState}
 
@@ -42,8 +43,8 @@ pub record AreServerOf (g : Geometry) (t : Tables) (s : Server) : Type 0 where
 abbrev pub IsOfGeometry : Geometry → BucketWords → Type 0
 IsOfGeometry g w = w.geometry ≡ g
 
--- tables are laid out as their geometry says, whatever their words are, and a traversal beside them is of the same geometry
+-- tables are laid out as their geometry says, whatever their words are, and a traversal beside them has the space of the same geometry
 pub record IsTableServer (t : Tables) (traversal : TraversalState) : Type 0 where
-  pub geometry : traversal.geometry ≡ t.geometry
+  pub space : traversal.space ≡ pass_space t.geometry
   pub valid : IsValid t.geometry
   pub laid_out : All (IsOfGeometry t.geometry) t.buckets

@@ -16,12 +16,12 @@ use Rattle.sei_main.specs.Course.{loan_in, put_back, turned}
 
 -- a step on what is lent is that of the definition, under the functions of a core with a plan
 pub record IsStep (g : Geometry) (text : List ℕ) (now : ℕ) (before after : Option BucketWords) (old new : TraversalState) (core later : ScriptState) (t : Turned) : Type 0 where
-  pub turned : TimedTwice (function_core script_answer script_next) (Some now) (λ now later. turn_tree (given_of (service_for g) text old.geometry (bucket_of before)) now later old.walk (words_of before)) core later
+  pub turned : TimedTwice (function_core script_answer script_next) (Some now) (λ now later. turn_tree (given_of (service_for g) text old.space (bucket_of before)) now later old.walk (words_of before)) core later
       (turn new.walk (words_of after) t.state)
   pub place : place_of after ≡ place_of before
   pub want : t.want ≡ new.walk.want
   pub sealed : new.walk.sealed ≡ old.walk.sealed
-  pub geometry : new.geometry ≡ old.geometry
+  pub space : new.space ≡ old.space
   pub steps : new.steps ≡ one_more old.steps
   pub running : new.running ≡ is_running t.state
   pub rooms : IsTraversal new
@@ -34,7 +34,7 @@ pub record IsTurn (g : Geometry) (text : List ℕ) (now : ℕ) (lent : Option �
   pub buckets : after ≡ put_back before lent (loan_in before lent) words
   pub want : t.want ≡ new.walk.want
   pub sealed : new.walk.sealed ≡ old.walk.sealed
-  pub geometry : new.geometry ≡ old.geometry
+  pub space : new.space ≡ old.space
   pub steps : new.steps ≡ one_more old.steps
   pub running : new.running ≡ is_running t.state
   pub rooms : IsTraversal new

@@ -6,7 +6,7 @@ ghost use Rattle.mc_model.specs.Server.{IsValid};
 ghost use Rattle.sei_words.specs.Words.{fresh_words};
 ghost use Rattle.sei_stmt.specs.Handling.{parsed_words};
 ghost use Rattle.sei_pass.specs.Setting.{sealed_call};
-ghost use Rattle.sei_pass.specs.State.{input_room};
+ghost use Rattle.sei_pass.specs.Spaces.{input_room, pass_space};
 ghost use Rattle.sei_hand.specs.Requests.{parsed_call};
 ghost use Rattle.sei_traverse.specs.Bounds.{most_steps};
 ghost use Rattle.sei_main.specs.State.{limits_of};
@@ -63,8 +63,8 @@ fn turn_on(
     clock: &SetClock,
 ) -> Turned
     requires running { traversal.old.running ≡ true }
-    requires room { length (parsed_words (sealed_call (parsed_call hands.now text.now) traversal.old.walk.sealed.nth)) ≤ input_room traversal.old.geometry }
-    requires laid_out { words.old.geometry ≡ traversal.old.geometry }
+    requires room { length (parsed_words (sealed_call (parsed_call hands.now text.now) traversal.old.walk.sealed.nth)) ≤ traversal.old.space.input }
+    requires laid_out { words.old.geometry ≡ traversal.old.space.geometry }
     ensures { IsStep hands.now text.now clock.now.at (Some words.old) (Some words.new) traversal.old traversal.new core.old core.new result }
 {
     traversal.step(hands, text, Some(words), core, clock)
@@ -80,7 +80,7 @@ fn turn_alone(
     clock: &SetClock,
 ) -> Turned
     requires running { traversal.old.running ≡ true }
-    requires room { length (parsed_words (sealed_call (parsed_call hands.now text.now) traversal.old.walk.sealed.nth)) ≤ input_room traversal.old.geometry }
+    requires room { length (parsed_words (sealed_call (parsed_call hands.now text.now) traversal.old.walk.sealed.nth)) ≤ traversal.old.space.input }
     ensures { IsStep hands.now text.now clock.now.at None None traversal.old traversal.new core.old core.new result }
 {
     traversal.step(hands, text, None, core, clock)
@@ -99,8 +99,8 @@ fn turn(
     clock: &SetClock,
 ) -> Turned
     requires running { traversal.old.running ≡ true }
-    requires room { length (parsed_words (sealed_call (parsed_call hands.now text.now) traversal.old.walk.sealed.nth)) ≤ input_room traversal.old.geometry }
-    requires geometry { traversal.old.geometry ≡ hands.now }
+    requires room { length (parsed_words (sealed_call (parsed_call hands.now text.now) traversal.old.walk.sealed.nth)) ≤ traversal.old.space.input }
+    requires space { traversal.old.space ≡ pass_space hands.now }
     requires laid_out { All (IsOfGeometry hands.now) buckets.old.items }
     ensures turned { IsTurn hands.now text.now clock.now.at lent traversal.old traversal.new buckets.old.items buckets.new.items core.old core.new result }
     ensures laid_out { All (IsOfGeometry hands.now) buckets.new.items }
@@ -170,14 +170,14 @@ fn traverse(
     sealed: Sealed,
     limit: u64,
 ) -> Result<Served, Memory>
-    requires geometry { traversal.old.geometry ≡ hands.now }
+    requires space { traversal.old.space ≡ pass_space hands.now }
     requires laid_out { All (IsOfGeometry hands.now) buckets.old.items }
     requires room { length (parsed_words (sealed_call (parsed_call hands.now text.now) sealed.nth)) ≤ input_room hands.now }
-    requires limit { limit ≡ most_steps hands.now + 1 }
+    requires limit { limit ≡ most_steps (pass_space hands.now) + 1 }
     ensures buckets { OnOk result (buckets.new.items ≡ (course_of hands.now text.now now buckets.old.items sealed plan).buckets) }
     ensures served { IfOk result (λ served. served ≡ (course_of hands.now text.now now buckets.old.items sealed plan).served) }
     ensures laid_out { All (IsOfGeometry hands.now) buckets.new.items }
-    ensures geometry { traversal.new.geometry ≡ hands.now }
+    ensures space { traversal.new.space ≡ pass_space hands.now }
 {
     let clock = SetClock { at: now };
     let mut core = ScriptCore::new(plan);

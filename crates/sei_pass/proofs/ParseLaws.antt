@@ -1,15 +1,11 @@
 -- Parse, once the code of the input was tested and the input words are filled.
 use Rattle.std.proofs.Common.{◌≡◌, ℕ, Bool, true, Option, sym, subst}
-use Rattle.std.specs.Prelude.{if◌then◌else◌}
 use Rattle.sei_code.specs.Kept.{Kept}
-use Rattle.sei_fault.specs.declared.cause.AbortCause.TheVariants.{Code}
 use Rattle.sei_fault.specs.Question.{Question, Answer}
 use Rattle.sei_fault.specs.Question.Question.{Test}
 use Rattle.sei_fault.specs.Tree.{Runs}
 use Rattle.sei_stmt.specs.Handling.{Parsed, parsed_words, refilled}
-use Rattle.sei_stmt.specs.Machine.{ends}
-use Rattle.sei_stmt.specs.Machine.Outcome.{Bad}
-use Rattle.sei_stmt.specs.Statements.{parse_tree, parse_call}
+use Rattle.sei_stmt.specs.Statements.{parse_tree, parse_call, intact_if}
 use Rattle.sei_pass.specs.declared.frame.Frame.{Frame}
 use Rattle.sei_pass.specs.declared.frame.PassStep.{PassStep}
 use Rattle.sei_pass.specs.Setting.{calling}
@@ -23,5 +19,5 @@ parse_on gives intact told call lent index f f2 input p s r t h e filled does = 
     let m = machine_at f words log notes in
     let x = after_at f2 words log notes p in
     let g = calling intact call lent in
-    let run = subst (λ k. Runs gives (parse_call g index (record m { input = k })) r t x) filled (does words log notes) in
-    (told, r, h, subst (λ b. Runs gives (if b then parse_call g index (record m { input = refilled m.input (parsed_words call) }) else ends m (Bad Code)) r t x) (sym e) run)
+    let run = subst (λ k. Runs gives (parse_call g index (machine_at (record f { input = k }) words log notes)) r t x) filled (does words log notes) in
+    (told, r, h, subst (λ b. Runs gives (intact_if b g index m) r t x) (sym e) run)

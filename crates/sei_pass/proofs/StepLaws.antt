@@ -1,8 +1,7 @@
 -- A step, from what its statement does.
 use Rattle.std.proofs.Common.{◌≡◌, ℕ, ◌+◌, ◌<◌, ◌≤◌, true, false, List, Option, Some, None, refl, sym, subst, arith}
-use Rattle.std.specs.Prelude.{nat_lt, slice_get, if◌then◌else◌}
+use Rattle.std.specs.Prelude.{nat_lt, slice_get}
 use Rattle.std.proofs.lemmas.Bool.Decides.{nat_tests}
-use Rattle.mc_model.specs.declared.geometry.Geometry.{Geometry}
 use Rattle.sei_fault.specs.Counts.{Counts, Answered}
 use Rattle.sei_fault.specs.declared.cause.AbortCause.TheVariants.{Table, Budget}
 use Rattle.sei_fault.specs.Question.{Question, Answer, honestly_to}
@@ -11,13 +10,14 @@ use Rattle.sei_fault.proofs.Runs.{counted_runs}
 use Rattle.sei_stmt.specs.declared.stmt.Stmt.{Stmt}
 use Rattle.sei_stmt.specs.declared.stmt.Stmt.TheVariants.{Now}
 use Rattle.sei_stmt.specs.Handling.{Parsed}
-use Rattle.sei_stmt.specs.Machine.{Machine, Setting, Outcome, After, ends}
+use Rattle.sei_stmt.specs.Machine.{Machine, Setting, Outcome, After, one_made}
 use Rattle.sei_stmt.specs.Machine.Outcome.{Bad}
-use Rattle.sei_stmt.specs.Statements.{statement_tree, found_tree, step_tree}
+use Rattle.sei_stmt.specs.Statements.{statement_tree, count_if, found_tree, step_tree}
 use Rattle.sei_stmt.proofs.HonestLaws.{on_way}
 use Rattle.sei_pass.specs.declared.given.Sealed.{Sealed}
 use Rattle.sei_pass.specs.declared.given.Which.{Which}
 use Rattle.sei_pass.specs.declared.given.Which.TheVariants.{Making}
+use Rattle.sei_pass.specs.declared.spaces.PassSpace.{PassSpace}
 use Rattle.sei_pass.specs.Setting.{setting_of}
 use Rattle.sei_pass.specs.Steps.{IsAnswer, IsAsked, Stepped}
 
@@ -51,33 +51,33 @@ pub spent : {S : Type 0} (gives : S → (q : Question) → Answer q → S → Ty
 spent gives g i m s st e b =
     let x : After = record { machine = m; outcome = Bad Budget } in
     subst (λ o. Runs gives (found_tree g i m o) s s x) e
-    (subst (λ c. Runs gives (if c then statement_tree g i (record m { made = m.made + 1 }) st else ends m (Bad Budget)) s s x) (sym b) (refl, refl))
+    (subst (λ c. Runs gives (count_if c g i m st) s s x) (sym b) (refl, refl))
 
 -- the statement is counted and made
 pub made_one : {S : Type 0} (gives : S → (q : Question) → Answer q → S → Type 0) (g : Setting) (i : ℕ) (m : Machine) (s t : S) (st : Stmt) (x : After) →
     Some st ≡ slice_get g.statements i → nat_lt m.made g.budget ≡ true →
-    Runs gives (statement_tree g i (record m { made = m.made + 1 }) st) s t x → Runs gives (step_tree g i m) s t x
+    Runs gives (statement_tree g i (one_made m) st) s t x → Runs gives (step_tree g i m) s t x
 made_one gives g i m s t st x e b r =
     subst (λ o. Runs gives (found_tree g i m o) s t x) e
-    (subst (λ c. Runs gives (if c then statement_tree g i (record m { made = m.made + 1 }) st else ends m (Bad Budget)) s t x) (sym b) r)
+    (subst (λ c. Runs gives (count_if c g i m st) s t x) (sym b) r)
 
 -- a statement that does not ask the clock does the same whatever it would answer
 pub any_time : {S : Type 0} (gives : S → (q : Question) → Answer q → S → Type 0) (which : Which) (statements : List Stmt)
-    (parsed : List ℕ → ℕ → Option Parsed) (rendered : List ℕ → Option (List ℕ)) (input : List ℕ) (sealed : Sealed) (lent : Option ℕ) (g : Geometry)
+    (parsed : List ℕ → ℕ → Option Parsed) (rendered : List ℕ → Option (List ℕ)) (input : List ℕ) (sealed : Sealed) (lent : Option ℕ) (space : PassSpace)
     (st : Stmt) (told : Option ℕ) (time i : ℕ) (m : Machine) (s t : S) (x : After) → IsAsked which st told time →
-    Runs gives (statement_tree (setting_of which statements parsed rendered input sealed lent g time) i m st) s t x →
-    (now : ℕ) × IsAnswer told now × Runs gives (statement_tree (setting_of which statements parsed rendered input sealed lent g now) i m st) s t x
-any_time gives Making statements parsed rendered input sealed lent g (Now to) told time i m s t x a r = (time, a, r)
-any_time gives which statements parsed rendered input sealed lent g st told time i m s t x a r =
+    Runs gives (statement_tree (setting_of which statements parsed rendered input sealed lent space time) i m st) s t x →
+    (now : ℕ) × IsAnswer told now × Runs gives (statement_tree (setting_of which statements parsed rendered input sealed lent space now) i m st) s t x
+any_time gives Making statements parsed rendered input sealed lent space (Now to) told time i m s t x a r = (time, a, r)
+any_time gives which statements parsed rendered input sealed lent space st told time i m s t x a r =
     let n = some_answer told in (n.0, n.1, r)
 
 -- the test of the budget
 
-pub is_below : (made b budget : ℕ) → b ≡ budget → made < b → nat_lt made budget ≡ true
-is_below made b budget e h = grind (arith, nat_tests)
+pub is_below : (made budget : ℕ) → made < budget → nat_lt made budget ≡ true
+is_below made budget h = grind (arith, nat_tests)
 
-pub not_below : (made b budget : ℕ) → b ≡ budget → b ≤ made → nat_lt made budget ≡ false
-not_below made b budget e h = grind (arith, nat_tests)
+pub not_below : (made budget : ℕ) → budget ≤ made → nat_lt made budget ≡ false
+not_below made budget h = grind (arith, nat_tests)
 
-pub made_within : (made new b budget : ℕ) → new ≡ made + 1 → b ≡ budget → made < b → new ≤ budget
-made_within made new b budget n e h = omega arith
+pub made_within : (made new budget : ℕ) → new ≡ made + 1 → made < budget → new ≤ budget
+made_within made new budget n h = omega arith

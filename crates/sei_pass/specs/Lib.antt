@@ -1,4 +1,5 @@
 pub mod Acts
+pub mod Spaces
 pub mod State
 pub mod Setting
 pub mod Frames

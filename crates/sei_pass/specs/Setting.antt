@@ -11,7 +11,7 @@ use Rattle.sei_stmt.specs.Machine.{Setting}
 use Rattle.sei_pass.specs.declared.given.Sealed.{Sealed}
 use Rattle.sei_pass.specs.declared.given.Which.{Which}
 use Rattle.sei_pass.specs.declared.given.Which.TheVariants.{Making, Reading}
-use Rattle.sei_pass.specs.State.{budget_of}
+use Rattle.sei_pass.specs.declared.spaces.PassSpace.{PassSpace}
 
 -- the second pass reads the noted answers
 abbrev pub is_reading : Which → Bool
@@ -69,9 +69,9 @@ abbrev pub rendering : ℕ → (List ℕ → Option (List ℕ)) → Setting
 rendering answer rendered = record bare { answer = answer; rendered = rendered }
 
 -- the setting of a step: the pass, the statements, calls and bytes of the hands, the input, what is
--- sealed, the bucket that is lent, the geometry, and the clock's answer
-abbrev pub setting_of : Which → List Stmt → (List ℕ → ℕ → Option Parsed) → (List ℕ → Option (List ℕ)) → List ℕ → Sealed → Option ℕ → Geometry → ℕ → Setting
-setting_of which statements parsed rendered input sealed lent g now = record {
+-- sealed, the bucket that is lent, the space, and the clock's answer
+abbrev pub setting_of : Which → List Stmt → (List ℕ → ℕ → Option Parsed) → (List ℕ → Option (List ℕ)) → List ℕ → Sealed → Option ℕ → PassSpace → ℕ → Setting
+setting_of which statements parsed rendered input sealed lent space now = record {
   reading = is_reading which;
   statements = statements;
   intact = is_intact sealed input;
@@ -79,8 +79,8 @@ setting_of which statements parsed rendered input sealed lent g now = record {
   answer = sealed.answer;
   rendered = rendered;
   lent = lent;
-  slots = g.slots;
-  is_free = free_of g lent;
-  budget = budget_of g;
+  slots = space.geometry.slots;
+  is_free = free_of space.geometry lent;
+  budget = space.budget;
   now = now;
 }

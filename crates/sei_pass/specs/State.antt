@@ -1,10 +1,11 @@
 -- What a pass holds.
-use Rattle.std.specs.Prelude.{◌≡◌, ℕ, ◌+◌, ◌*◌, ◌≤◌, List, length, replicate, Option, None}
+use Rattle.std.specs.Prelude.{◌≡◌, ℕ, ◌≤◌, List, length, replicate, Option, None}
 use Rattle.sei_code.specs.Kept.{Kept, empty_kept}
-use Rattle.mc_model.specs.declared.geometry.Geometry.{Geometry}
 use Rattle.mc_model.specs.Server.{IsValid}
+use Rattle.sei_pass.specs.declared.spaces.PassSpace.{PassSpace}
+use Rattle.sei_pass.specs.Spaces.{IsSpaceOf}
 
--- its registers, its lists, the output code, how many statements it made, and its geometry
+-- its registers, its lists, the output code, how many statements it made, and its space
 pub record PassState : Type 0 where
   pub registers : List ℕ
   pub input : Kept ℕ
@@ -12,30 +13,17 @@ pub record PassState : Type 0 where
   pub bytes : Kept ℕ
   pub code : Option ℕ
   pub made : ℕ
-  pub geometry : Geometry
+  pub space : PassSpace
 
--- how many statements a pass may make
-abbrev pub budget_of : Geometry → ℕ
-budget_of g = 2000 + 400 * g.slots + 100 * g.value_words
-
--- the input words: 14 fields, a key of 32 words, and a block
-abbrev pub input_room : Geometry → ℕ
-input_room g = 46 + g.value_words
-
--- the output words: two items of 8 fields at most, a key of 32 words, and a value
-abbrev pub output_room : Geometry → ℕ
-output_room g = 48 + g.value_words
-
-abbrev pub bytes_room : Geometry → ℕ
-bytes_room g = 8 * g.value_words + 320
-
+-- its space is that of its geometry, and its lists have the rooms of it and fit into them
 pub record IsPass (p : PassState) : Type 0 where
-  pub valid : IsValid p.geometry
+  pub valid : IsValid p.space.geometry
+  pub space : IsSpaceOf p.space
   pub registers : length p.registers ≡ 32
-  pub input : p.input.room ≡ input_room p.geometry
-  pub output : p.output.room ≡ output_room p.geometry
-  pub bytes : p.bytes.room ≡ bytes_room p.geometry
-  pub made : p.made ≤ budget_of p.geometry
+  pub input : p.input.room ≡ p.space.input
+  pub output : p.output.room ≡ p.space.output
+  pub bytes : p.bytes.room ≡ p.space.bytes
+  pub made : p.made ≤ p.space.budget
   pub fits : length p.output.items ≤ p.output.room
   pub bytes_fit : length p.bytes.items ≤ p.bytes.room
   pub input_fits : length p.input.items ≤ p.input.room
@@ -43,16 +31,16 @@ pub record IsPass (p : PassState) : Type 0 where
 -- it has a list beside, for the output words that it reads
 pub record IsBuilt (p : PassState) (beside : Kept ℕ) : Type 0 where
   pub pass : IsPass p
-  pub room : beside.room ≡ output_room p.geometry
+  pub room : beside.room ≡ p.space.output
 
 -- before its first statement
-abbrev pub new_pass : Geometry → PassState
-new_pass g = record {
+abbrev pub new_pass : PassSpace → PassState
+new_pass s = record {
   registers = replicate 32 0;
-  input = empty_kept ℕ (input_room g);
-  output = empty_kept ℕ (output_room g);
-  bytes = empty_kept ℕ (bytes_room g);
+  input = empty_kept ℕ s.input;
+  output = empty_kept ℕ s.output;
+  bytes = empty_kept ℕ s.bytes;
   code = None;
   made = 0;
-  geometry = g;
+  space = s;
 }

@@ -1,10 +1,8 @@
 //! The registers and lists that statements work on.
 ghost use Rattle.std.specs.Prelude.{◌≡◌, ℕ, IfOk, None, replicate};
-ghost use Rattle.mc_model.specs.Server.{IsValid};
 ghost use Rattle.sei_code.specs.Kept.{empty_kept, emptied};
-ghost use Rattle.sei_pass.specs.State.{input_room, output_room, bytes_room};
 
-use mc_model::Geometry;
+use crate::spaces::PassSpace;
 use sei_code::{Buffer, Memory, WordList};
 use sei_fault::AbortCause;
 use std::alloc::Global;
@@ -40,23 +38,22 @@ pub struct Frame {
 }
 
 impl Frame {
-    /// Before the first statement.
-    pub fn new(alloc: Global, g: &Geometry) -> Result<Frame, Memory>
-        requires { IsValid g.now }
+    /// Before the first statement, with the rooms of this space.
+    pub fn new(alloc: Global, space: &PassSpace) -> Result<Frame, Memory>
         ensures { IfOk result (λ frame. frame ≡ record {
           registers = replicate 32 0;
-          input = empty_kept ℕ (input_room g.now);
-          output = empty_kept ℕ (output_room g.now);
-          bytes = empty_kept ℕ (bytes_room g.now);
+          input = empty_kept ℕ space.now.input;
+          output = empty_kept ℕ space.now.output;
+          bytes = empty_kept ℕ space.now.bytes;
           code = None;
           made = 0;
         }) }
     {
         Ok(Frame {
             registers: [0; REGISTERS],
-            input: WordList::new(alloc, (46 + g.value_words) as usize)?,
-            output: WordList::new(alloc, (48 + g.value_words) as usize)?,
-            bytes: Buffer::new(alloc, (8 * g.value_words + 320) as usize)?,
+            input: WordList::new(alloc, space.input as usize)?,
+            output: WordList::new(alloc, space.output as usize)?,
+            bytes: Buffer::new(alloc, space.bytes as usize)?,
             code: None,
             made: 0,
         })

@@ -11,6 +11,7 @@ mod output;
 mod pass;
 mod registers;
 mod slots;
+mod spaces;
 mod step;
 #[cfg(test)]
 mod tests;
@@ -19,3 +20,4 @@ pub use frame::PassStep;
 pub use given::{Sealed, Which};
 pub use pass::Pass;
 pub use slots::Slots;
+pub use spaces::{PassSpace, budget, bytes_room, input_room, log_room, output_room};

@@ -4,6 +4,7 @@ ghost use Rattle.std.specs.Option.{option_map};
 ghost use Rattle.mc_model.specs.Server.{IsValid};
 ghost use Rattle.sei_stmt.specs.Handling.{parsed_words};
 ghost use Rattle.sei_pass.specs.Acts.{act_of};
+ghost use Rattle.sei_pass.specs.Spaces.{pass_space};
 ghost use Rattle.sei_pass.specs.State.{IsPass, new_pass};
 ghost use Rattle.sei_words.specs.Loan.{words_of, bucket_of, place_of, IsOf};
 ghost use Rattle.sei_words.specs.Exits.{lent_at, lent_left};
@@ -14,6 +15,7 @@ ghost use Rattle.sei_pass.specs.Steps.{machine_of, Stepped};
 use crate::frame::{Frame, PassStep};
 use crate::given::{Sealed, Which};
 use crate::slots::Slots;
+use crate::spaces::PassSpace;
 use mc_model::Geometry;
 use sei_code::{Memory, WordList};
 use sei_fault::{Act, Core};
@@ -31,7 +33,7 @@ pub struct Pass {
     frame: Frame,
     /// Where `Render` puts the output words that it reads.
     scratch: WordList,
-    geometry: Geometry,
+    space: PassSpace,
 }
 
 impl Model for Pass {
@@ -47,7 +49,7 @@ impl Model for Pass {
       bytes = p.frame.bytes;
       code = p.frame.code;
       made = p.frame.made;
-      geometry = p.geometry;
+      space = p.space;
     } };
 
     ghost invariant = { λ p. IsBuilt (record {
@@ -57,7 +59,7 @@ impl Model for Pass {
       bytes = p.frame.bytes;
       code = p.frame.code;
       made = p.frame.made;
-      geometry = p.geometry;
+      space = p.space;
     }) p.scratch };
 }
 
@@ -66,18 +68,19 @@ impl Pass {
     /// Nothing is allocated afterwards.
     pub fn new(alloc: Global, g: &Geometry) -> Result<Pass, Memory>
         requires { IsValid g.now }
-        ensures { IfOk result (λ pass. pass ≡ new_pass g.now) }
+        ensures { IfOk result (λ pass. pass ≡ new_pass (pass_space g.now)) }
     {
+        let space = PassSpace::new(g);
         Ok(Pass {
-            frame: Frame::new(alloc, g)?,
-            scratch: WordList::new(alloc, (48 + g.value_words) as usize)?,
-            geometry: *g,
+            frame: Frame::new(alloc, &space)?,
+            scratch: WordList::new(alloc, space.output as usize)?,
+            space,
         })
     }
 
     /// Makes it as it was before its first statement.
     pub fn clear(&mut self)
-        ensures { self.new ≡ new_pass self.old.geometry }
+        ensures { self.new ≡ new_pass self.old.space }
     {
         self.frame.clear();
     }
@@ -114,6 +117,7 @@ impl Pass {
     ///
     /// It aborts with `Table` where there is no such statement, with `Budget` where the pass has
     /// made as many statements as it may, and else as the statement does.
+    /// Behind a `Parse` that aborts the input words may be filled already.
     pub fn step<H: Handler, K: Core, C: Clock>(
         &mut self,
         which: Which,
@@ -130,13 +134,13 @@ impl Pass {
         // The input words have room for what the hands make of the input.
         requires room { length (parsed_words (sealed_call (H.parsed hands.now input.now) sealed.now.nth)) ≤ self.old.input.room }
         // What is lent is of the pass's geometry.
-        requires lent { IsOf self.old.geometry (lent_at lent) }
+        requires lent { IsOf self.old.space.geometry (lent_at lent) }
         ensures stepped { Stepped K.gives K.counts (C.told clock.now)
-            (setting_of which (H.statements hands.now) (H.parsed hands.now) (H.rendered hands.now) input.now sealed.now (bucket_of (lent_at lent.entry)) self.old.geometry)
+            (setting_of which (H.statements hands.now) (H.parsed hands.now) (H.rendered hands.now) input.now sealed.now (bucket_of (lent_at lent.entry)) self.old.space)
             index (machine_of self.old (words_of (lent_at lent.entry)) log.old notes.old)
             (machine_of self.new (words_of (lent_left lent.exit)) log.new notes.new) (outcome_of result) core.old core.new }
         ensures lent { place_of (lent_left lent.exit) ≡ place_of (lent_at lent.entry) }
-        ensures geometry { self.new.geometry ≡ self.old.geometry }
+        ensures space { self.new.space ≡ self.old.space }
         ensures pass { IsPass self.new }
         ensures log { log.new.room ≡ log.old.room }
         ensures log_fits { length log.old.items ≤ log.old.room → length log.new.items ≤ log.new.room }
@@ -176,13 +180,13 @@ impl Pass {
         index: u64,
     ) -> PassStep
         requires room { length (parsed_words (sealed_call (H.parsed hands.now input.now) sealed.now.nth)) ≤ self.old.input.room }
-        requires lent { IsOf self.old.geometry (L.loan lent.old) }
+        requires lent { IsOf self.old.space.geometry (L.loan lent.old) }
         ensures stepped { Stepped K.gives K.counts (C.told clock.now)
-            (setting_of which (H.statements hands.now) (H.parsed hands.now) (H.rendered hands.now) input.now sealed.now (bucket_of (L.loan lent.old)) self.old.geometry)
+            (setting_of which (H.statements hands.now) (H.parsed hands.now) (H.rendered hands.now) input.now sealed.now (bucket_of (L.loan lent.old)) self.old.space)
             index (machine_of self.old (words_of (L.loan lent.old)) log.old notes.old)
             (machine_of self.new (words_of (L.loan lent.new)) log.new notes.new) (outcome_of result) core.old core.new }
         ensures lent { place_of (L.loan lent.new) ≡ place_of (L.loan lent.old) }
-        ensures geometry { self.new.geometry ≡ self.old.geometry }
+        ensures space { self.new.space ≡ self.old.space }
         ensures pass { IsPass self.new }
         ensures log { log.new.room ≡ log.old.room }
         ensures log_fits { length log.old.items ≤ log.old.room → length log.new.items ≤ log.new.room }
@@ -193,7 +197,7 @@ impl Pass {
             input,
             sealed,
             lent,
-            &self.geometry,
+            &self.space,
             log,
             notes,
             &mut self.scratch,

@@ -1,6 +1,5 @@
 //! One statement, whichever it is.
 ghost use Rattle.std.specs.Prelude.{◌≡◌, ℕ, ◌+◌, ◌<◌, ◌≤◌, ◌^◌, length};
-ghost use Rattle.mc_model.specs.Server.{IsValid};
 ghost use Rattle.sei_fault.specs.Tree.{Runs};
 ghost use Rattle.sei_stmt.specs.Handling.{parsed_words};
 ghost use Rattle.sei_stmt.specs.Statements.{statement_tree};
@@ -8,13 +7,12 @@ ghost use Rattle.sei_stmt.specs.Table.{HasRegisters, JumpsInside, HasNext};
 ghost use Rattle.sei_words.specs.Loan.{words_of, bucket_of, place_of, IsOf};
 ghost use Rattle.sei_pass.specs.Setting.{sealed_call, setting_of};
 ghost use Rattle.sei_pass.specs.Frames.{machine_at, after_at, outcome_of, KeepsRooms};
-ghost use Rattle.sei_pass.specs.State.{budget_of};
 ghost use Rattle.sei_pass.specs.Steps.{IsAsked, Stepped};
 
 use crate::frame::{Frame, PassStep};
 use crate::given::{Sealed, Which};
 use crate::slots::Slots;
-use mc_model::Geometry;
+use crate::spaces::PassSpace;
 use sei_code::WordList;
 use sei_fault::{AbortCause, Core};
 use sei_log::{Notes, WriteLog};
@@ -35,14 +33,6 @@ pub fn time<C: Clock>(which: Which, statement: Stmt, clock: &C) -> u64
     }
 }
 
-/// How many statements a pass may make.
-fn budget(g: &Geometry) -> u64
-    requires { IsValid g.now }
-    ensures { result ≡ budget_of g.now }
-{
-    2000 + 400 * g.slots + 100 * g.value_words
-}
-
 impl Frame {
     /// Makes the statement at `index`, where there is one and the budget is not spent.
     #[inline(always)]
@@ -53,7 +43,7 @@ impl Frame {
         input: &[u8],
         sealed: &Sealed,
         lent: &mut L,
-        g: &Geometry,
+        space: &PassSpace,
         log: &mut WriteLog,
         notes: &mut Notes,
         scratch: &mut WordList,
@@ -61,21 +51,20 @@ impl Frame {
         clock: &C,
         index: u64,
     ) -> PassStep
-        requires valid { IsValid g.now }
-        requires geometry { IsOf g.now (L.loan lent.old) }
+        requires geometry { IsOf space.now.geometry (L.loan lent.old) }
         requires room { length (parsed_words (sealed_call (H.parsed hands.now input.now) sealed.now.nth)) ≤ self.old.input.room }
         requires fits { length self.old.output.items ≤ self.old.output.room }
         requires bytes_fit { length self.old.bytes.items ≤ self.old.bytes.room }
         requires input_fits { length self.old.input.items ≤ self.old.input.room }
         requires scratch { scratch.old.room ≡ self.old.output.room }
-        requires made { self.old.made ≤ budget_of g.now }
+        requires made { self.old.made ≤ space.now.budget }
         ensures stepped { Stepped K.gives K.counts (C.told clock.now)
-            (setting_of which (H.statements hands.now) (H.parsed hands.now) (H.rendered hands.now) input.now sealed.now (bucket_of (L.loan lent.old)) g.now)
+            (setting_of which (H.statements hands.now) (H.parsed hands.now) (H.rendered hands.now) input.now sealed.now (bucket_of (L.loan lent.old)) space.now)
             index (machine_at self.old (words_of (L.loan lent.old)) log.old notes.old)
             (machine_at self.new (words_of (L.loan lent.new)) log.new notes.new) (outcome_of result) core.old core.new }
         ensures lent { place_of (L.loan lent.new) ≡ place_of (L.loan lent.old) }
         ensures rooms { KeepsRooms self.old self.new }
-        ensures made { self.new.made ≤ budget_of g.now }
+        ensures made { self.new.made ≤ space.now.budget }
         ensures log { log.new.room ≡ log.old.room }
         ensures log_fits { length log.old.items ≤ log.old.room → length log.new.items ≤ log.new.room }
         ensures scratch { scratch.new.room ≡ scratch.old.room }
@@ -83,12 +72,12 @@ impl Frame {
         match hands.table().get(index) {
             None => PassStep::Bad(AbortCause::Table { index }),
             Some(statement) => {
-                if self.made < budget(g) {
+                if self.made < space.budget {
                     self.made += 1;
                     let time = time(which, statement, clock);
                     self.make(
-                        statement, which, hands, input, sealed, lent, g, log, notes, time, scratch,
-                        index, core,
+                        statement, which, hands, input, sealed, lent, space, log, notes, time,
+                        scratch, index, core,
                     )
                 } else {
                     PassStep::Bad(AbortCause::Budget)
@@ -107,7 +96,7 @@ impl Frame {
         input: &[u8],
         sealed: &Sealed,
         lent: &mut L,
-        g: &Geometry,
+        space: &PassSpace,
         log: &mut WriteLog,
         notes: &mut Notes,
         time: u64,
@@ -119,10 +108,10 @@ impl Frame {
         requires jumps { JumpsInside (length (H.statements hands.now)) index statement }
         requires small { length (H.statements hands.now) < 2 ^ 63 }
         requires here { index < length (H.statements hands.now) }
-        requires geometry { IsOf g.now (L.loan lent.old) }
+        requires geometry { IsOf space.now.geometry (L.loan lent.old) }
         requires room { length (parsed_words (sealed_call (H.parsed hands.now input.now) sealed.now.nth)) ≤ self.old.input.room }
         requires scratch { length self.old.output.items ≤ scratch.old.room }
-        ensures tree { Runs K.gives (statement_tree (setting_of which (H.statements hands.now) (H.parsed hands.now) (H.rendered hands.now) input.now sealed.now (bucket_of (L.loan lent.old)) g.now time)
+        ensures tree { Runs K.gives (statement_tree (setting_of which (H.statements hands.now) (H.parsed hands.now) (H.rendered hands.now) input.now sealed.now (bucket_of (L.loan lent.old)) space.now time)
             index (machine_at self.old (words_of (L.loan lent.old)) log.old notes.old) statement)
             core.old core.new (after_at self.new (words_of (L.loan lent.new)) log.new notes.new result) }
         ensures lent { place_of (L.loan lent.new) ≡ place_of (L.loan lent.old) }
@@ -152,7 +141,14 @@ impl Frame {
             } => self.jump_less(left, right, target(index, offset), index, core),
             Stmt::Now { to } => self.now(which, to, time, notes, index, core),
             Stmt::Alloc { to, moment } => self.alloc(
-                which, to, moment, lent, g, notes, index, core,
+                which,
+                to,
+                moment,
+                lent,
+                &space.geometry,
+                notes,
+                index,
+                core,
             ),
             Stmt::Parse => self.parse(hands, input, sealed, lent.bucket(), index, core),
             Stmt::Render => self.render(hands, sealed.answer, scratch, index, core),

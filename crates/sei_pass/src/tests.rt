@@ -82,7 +82,7 @@ fn make(
     notes: &mut Notes,
     index: u64,
 ) -> PassStep
-    requires { IsOf pass.old.geometry (lent_at lent) }
+    requires { IsOf pass.old.space.geometry (lent_at lent) }
 {
     let _code = pass.code();
     let mut core = PlainCore::new();
@@ -170,6 +170,18 @@ fn a_pass_answers_and_halts(rt: HostRuntime) -> Result<(), Fail> {
     assert_eq!(rt; pass.act(&service, 7), None);
     pass.clear();
     assert_eq!(rt; pass.code(), None);
+    Ok(())
+}
+
+/// The rooms and the budget of one slot with three value words.
+#[test]
+fn a_space_is_that_of_its_geometry(rt: HostRuntime) -> Result<(), Fail> {
+    let space = PassSpace::new(&SMALL);
+    assert_eq!(rt; space.input, 49);
+    assert_eq!(rt; space.output, 51);
+    assert_eq!(rt; space.bytes, 344);
+    assert_eq!(rt; space.log, 52);
+    assert_eq!(rt; space.budget, 2700);
     Ok(())
 }
 

@@ -6,7 +6,7 @@ use Rattle.std.proofs.lemmas.Option.{slice_get-get_or, slice_get_within}
 use Rattle.std.proofs.lemmas.List.{length-set}
 use Rattle.sei_fault.specs.Tree.{honest}
 use Rattle.sei_log.specs.declared.log.Change.{Change}
-use Rattle.sei_log.specs.Changes.{undone}
+use Rattle.sei_log.specs.Changes.{change_of, undone}
 use Rattle.sei_restore.specs.Undoing.{undo_at, undo_tree, undo_word, LeadsTo, restored}
 
 -- an element that is put back where another one came
@@ -34,7 +34,7 @@ undo_words words c a None e = sym (set_past words a c.was e)
 undo_words words c a (Some w) e = search
 
 none : Change
-none = record { address = 0; was = 0; becomes = 0 }
+none = change_of 0 0 0
 
 back : (log : List Change) (words : List ℕ) (n : ℕ) → n ≤ length log → restored log words n ≡ undone (drop (length log - n) log) words
 back log words zero h =

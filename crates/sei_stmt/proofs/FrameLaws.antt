@@ -3,12 +3,13 @@ use Rattle.std.proofs.Common.{Some, ◌≡◌, ◌≢◌, ℕ, zero, suc, ◌+�
 use Rattle.std.specs.Prelude.{slice_index, true, false, nat_eq, nat_lt, if◌then◌else◌}
 use Rattle.std.proofs.Math.ListN.{length-set}
 use Rattle.std.proofs.lemmas.Bool.{cases_lt, ne_eqb, eq-eqb, and_parts, both_ways, ltb-true, lt-ltb}
+use Rattle.sei_log.specs.Changes.{change_of}
 use Rattle.sei_log.specs.declared.log.Change.{Change}
 use Rattle.sei_stmt.specs.declared.stmt.Stmt.{Stmt}
 use Rattle.sei_stmt.specs.declared.stmt.Stmt.TheVariants.{Const, Move, Add, Sub, Input, Load, Store, Emit, Jump, JumpEq, JumpLt, Now, Alloc, Parse, Render, Halt}
 use Rattle.sei_stmt.specs.Order.{unparsed, parsed, timed, slotted, finished}
 use Rattle.sei_stmt.specs.Runs.{Given, RunState, Counted, logged, put, tick, write, store, emit, reach, render}
-use Rattle.sei_stmt.specs.Programs.{Prog, Block, Seq, IfEq, IfLt, WhileLt, IsParsed, IsOpen, MayRender, Post, Before, BeforeAll, Turns, Ends}
+use Rattle.sei_stmt.specs.Programs.{Prog, Block, Seq, IfEq, IfLt, RepeatLt, IsParsed, IsOpen, MayRender, Post, Before, BeforeAll, Turns, Ends}
 use Rattle.sei_stmt.specs.Touch.{Touch, anything, stmt_within, all_within, within, Framed, Rises}
 
 pub put_other : (f : ℕ → ℕ) (to v r : ℕ) → r ≢ to → put f to v r ≡ f r
@@ -46,18 +47,18 @@ rises_one lo (c ∷ cs) n x le h = (h.0, rises_one (c.address + 1) cs n x le h.1
 
 rises_logged : (lo : ℕ) (cs : List Change) (n a old v : ℕ) → n ≤ a → Rises lo cs n → Rises lo (logged cs a old v) (suc a)
 unfolding logged
-rises_logged lo cs n a old v le h = elim (nat_eq old v) as (λ b. Rises lo (if b then cs else cs ++ record { address = a; was = old; becomes = v } ∷ []) (suc a)) [
+rises_logged lo cs n a old v le h = elim (nat_eq old v) as (λ b. Rises lo (if b then cs else cs ++ change_of a old v ∷ []) (suc a)) [
   | true ↦ rises_more lo cs n (suc a) (omega arith) h
-  | false ↦ rises_one lo cs n (record { address = a; was = old; becomes = v }) le h
+  | false ↦ rises_one lo cs n (change_of a old v) le h
 ]
 
 -- The counts.
 
 length_logged : (cs : List Change) (a old v n : ℕ) → length cs ≤ n → length (logged cs a old v) ≤ suc n
 unfolding logged
-length_logged cs a old v n le = elim (nat_eq old v) as (λ b. length (if b then cs else cs ++ record { address = a; was = old; becomes = v } ∷ []) ≤ suc n) [
+length_logged cs a old v n le = elim (nat_eq old v) as (λ b. length (if b then cs else cs ++ change_of a old v ∷ []) ≤ suc n) [
   | true ↦ omega arith
-  | false ↦ omega (arith, length-append cs (record { address = a; was = old; becomes = v } ∷ []))
+  | false ↦ omega (arith, length-append cs (change_of a old v ∷ []))
 ]
 
 pub counted_store : (s : RunState) (a v : ℕ) → Counted s → Counted (store s a v)
@@ -177,8 +178,11 @@ module _ (e : Given) where
   frame_more w (IfLt l r p q) s0 s Q R ok fr f b =
       let y = and_parts (within w p) (within w q) ok in
       (λ h. frame_more w p s0 (tick s) Q R y.0 (framed_tick w s0 s fr) f (b.0 h), λ h. frame_more w q s0 (tick s) (λ t. Q (tick t)) (λ t. R (tick t)) y.1 (framed_tick w s0 s fr) (λ t ft bt. f (tick t) (framed_tick w s0 t ft) bt) (b.1 h))
-  frame_more w (WhileLt l r p) s0 s Q R ok fr f b =
-      (b.0, turns_frame w b.0 l r (Ends e p) s0 (λ t Q' R' ft g bt. frame_more w p s0 t Q' R' ok ft g bt) (tick s) Q R (framed_tick w s0 s fr) f b.1)
+  frame_more w (RepeatLt l r p) s0 s Q R ok fr f b = (
+    b.0,
+    frame_more w p s0 s (λ t. Turns b.0 l r (Ends e p) t Q) (λ t. Turns b.0 l r (Ends e p) t R) ok fr
+        (λ t ft bt. turns_frame w b.0 l r (Ends e p) s0 (λ u Q' R' fu g bu. frame_more w p s0 u Q' R' ok fu g bu) t Q R ft f bt) b.1,
+  )
 
   -- a program that was proved to end in Q, where R follows from Q and from what it keeps
   pub then_so : (w : Touch) (p : Prog) (s : RunState) (Q R : Post) → within w p ≡ true → ((t : RunState) → Framed w s t → Q t → R t) → Ends e p s Q → Ends e p s R
@@ -188,12 +192,12 @@ module _ (e : Given) where
   pub seq : (w : Touch) (p q : Prog) (s : RunState) (Q R : Post) → within w p ≡ true → Ends e p s Q → ((t : RunState) → Framed w s t → Q t → Ends e q t R) → Ends e (Seq p q) s R
   seq w p q s Q R ok b f = then_so w p s Q (λ t. Ends e q t R) ok f b
 
-  -- a loop: I n holds where at most n more turns are made. What the body does not touch is as at the start
-  pub loop : (w : Touch) (l r : ℕ) (b : Prog) (s0 : RunState) (I : ℕ → RunState → Type 0) (Q : Post) → within w b ≡ true →
+  -- a loop: after a turn I n holds, if at most n more turns are made. What the body does not touch is as at the start
+  pub repeat : (w : Touch) (l r : ℕ) (b : Prog) (s0 : RunState) (I : ℕ → RunState → Type 0) (Q : Post) → within w b ≡ true →
       ((n : ℕ) (t : RunState) → Framed w s0 t → I n t → t.regs l < t.regs r → (m : ℕ) × (suc m ≡ n) × Ends e b (tick t) (I m)) →
       ((n : ℕ) (t : RunState) → Framed w s0 t → I n t → t.regs r ≤ t.regs l → Q (tick t)) →
-      (n : ℕ) → I n (tick s0) → Ends e (WhileLt l r b) s0 Q
-  loop w l r b s0 I Q ok step done n start = (n, go n (tick s0) (framed_tick w s0 s0 (framed_refl w s0)) start)
+      (n : ℕ) → Ends e b s0 (I n) → Ends e (RepeatLt l r b) s0 Q
+  repeat w l r b s0 I Q ok step done n first = (n, frame_more w b s0 s0 (I n) (λ t. Turns n l r (Ends e b) t Q) ok (framed_refl w s0) (λ t ft it. go n t ft it) first)
     where
       go : (n : ℕ) (t : RunState) → Framed w s0 t → I n t → Turns n l r (Ends e b) t Q
       go zero t ft it = elim (cases_lt (t.regs l) (t.regs r)) [
@@ -235,7 +239,7 @@ any_program (Block xs) = any_stmts xs
 any_program (Seq p q) = simp (any_program p, any_program q)
 any_program (IfEq l r p q) = simp (any_program p, any_program q)
 any_program (IfLt l r p q) = simp (any_program p, any_program q)
-any_program (WhileLt l r b) = any_program b
+any_program (RepeatLt l r b) = any_program b
 
 -- where nothing was changed before, all addresses rise
 pub rising : (w : Touch) (s t : RunState) → s.changes ≡ [] → Framed w s t → Rises 0 t.changes t.floor

@@ -4,8 +4,11 @@ pub mod HonestLaws
 pub mod FrameLaws
 pub mod ProgramLaws
 pub mod SwitchLaws
+pub mod PublicPrograms
 pub mod TieLaws
 pub mod ServeLaws
+pub mod PublicStatementEnds
+pub mod PublicStatementRuns
 pub mod Effects
 pub mod Relog
 pub mod Invariant

@@ -1,5 +1,5 @@
 -- A program that ends well makes a table whose passes do.
-use Rattle.std.proofs.Common.{◌≡◌, ℕ, zero, suc, ◌+◌, ◌<◌, inl, inr, List, [], ◌∷◌, Some, refl, sym, ap, ◌∙◌, subst, arith}
+use Rattle.std.proofs.Common.{◌≡◌, ℕ, zero, suc, ◌+◌, ◌<◌, ◌≤◌, inl, inr, List, [], ◌∷◌, Some, refl, sym, ap, ◌∙◌, subst, arith}
 use Rattle.std.proofs.lemmas.Bool.{both_ways}
 use Rattle.std.specs.Prelude.{false, All, slice_get, slice_index, replicate}
 use Rattle.sei_code.specs.Codes.{message_code}
@@ -13,10 +13,10 @@ use Rattle.sei_stmt.specs.Order.{finished}
 use Rattle.sei_stmt.specs.Passes.{Rooms, beginning, IsServed}
 use Rattle.sei_stmt.specs.Sound.{RisesFrom, Serves}
 use Rattle.sei_stmt.specs.Sound.Serves.{Well, Unfit}
-use Rattle.sei_stmt.specs.Runs.{Given, RunState, Counted, start, tick, exec}
+use Rattle.sei_stmt.specs.Runs.{Given, RunState, start, exec}
 use Rattle.sei_stmt.specs.Runs as runs
 use Rattle.sei_stmt.specs.Given.{given_of, Answers}
-use Rattle.sei_stmt.specs.Programs.{Prog, table_of, Post}
+use Rattle.sei_stmt.specs.Programs.{Prog, table_of, at_steps}
 use Rattle.sei_stmt.specs.Programs as programs
 use Rattle.sei_stmt.specs.Touch.{Rises}
 use Rattle.sei_stmt.proofs.ProgramLaws.{whole}
@@ -59,7 +59,7 @@ module _ (g : Setting) (rooms : Rooms) (p : Parsed) (now : ℕ) (slot : List ℕ
       programs.Ends (given_of g rooms p.words now slot) prog (start (λ r. 0) words) (Ended g Held reply) → Serves g Held reply (beginning rooms words notes)
   serves prog is words notes answers Held reply ends =
       elim (whole given prog (λ r. 0) words (Ended g Held reply) (λ t q. q.stage) ends) [
-        | inl r ↦ well r.0 r.1 r.3 r.4.0 r.4.2
+        | inl r ↦ well r.0 r.1 r.2 r.3 r.4.0 r.4.2
         | inr u ↦ unfit u.0 u.1 u.2 u.3
       ]
     where
@@ -73,14 +73,14 @@ module _ (g : Setting) (rooms : Rooms) (p : Parsed) (now : ℕ) (slot : List ℕ
       at n o e = subst (Ends g rooms p now slot begin 0) (ap (λ l. exec given l n 0 (start (λ r. 0) words)) is ∙ e)
           (tie g rooms p now slot served bytes_fit fine begin n 0 (start (λ r. 0) words) begin (begins words notes answers) (λ le. (refl, refl)))
 
-      well : (n : ℕ) (t : RunState) → exec given (table_of prog) n 0 (start (λ r. 0) words) ≡ runs.Ended (tick t) → Ended g Held reply t → Rises 0 t.changes t.floor → Serves g Held reply begin
-      well n t e q rising =
-          let h = at n (runs.Ended (tick t)) e in
-          let x = h.1 (omega (arith, q.steps)) in
+      well : (n : ℕ) (t : RunState) → n + 0 ≤ suc t.steps → exec given (table_of prog) n 0 (start (λ r. 0) words) ≡ runs.Ended (at_steps t (n + 0)) → Ended g Held reply t → Rises 0 t.changes t.floor → Serves g Held reply begin
+      well n t le e q rising =
+          let h = at n (runs.Ended (at_steps t (n + 0))) e in
+          let x = h.1 (omega (arith, le, q.steps)) in
           let done = x.3.done q.stage in
-          Well x.0 (suc t.steps) (record {
+          Well x.0 (n + 0) (record {
             run = record { halts = x.1 };
-            within = omega (arith, q.steps);
+            within = omega (arith, le, q.steps);
             ordered = x.2;
             rising = subst (RisesFrom 0) (sym x.3.log) (rises 0 t.changes t.floor rising);
             held = subst Held (sym x.3.words) q.held;

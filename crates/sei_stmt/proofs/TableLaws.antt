@@ -5,7 +5,7 @@ use Rattle.std.proofs.lemmas.Option.{slice_get_within, slice_get_past, slice_get
 use Rattle.std.proofs.lemmas.Bool.Decides.{nat_tests}
 use Rattle.sei_stmt.specs.declared.stmt.Stmt.{Stmt}
 use Rattle.sei_stmt.specs.declared.stmt.Stmt.TheVariants.{Const, Move, Add, Sub, Input, Load, Store, Emit, Jump, JumpEq, JumpLt, Now, Alloc, Parse, Render, Halt}
-use Rattle.sei_stmt.specs.Table.{registers_fit, HasRegisters, target, is_inside, IsInside, jump_fits, JumpsInside, HasNext, is_halt, IsTable}
+use Rattle.sei_stmt.specs.Table.{registers_fit, HasRegisters, is_inside, IsInside, jump_fits, JumpsInside, HasNext, is_halt, IsTable}
 
 -- the test and the fact say the same
 pub registers_are_there : (s : Stmt) → registers_fit s ≡ true → HasRegisters s
@@ -71,26 +71,3 @@ statement_there held stmts n i s same count within there = slice_get_read stmts 
 
 pub no_statement_there : (stmts : List Stmt) (n i : ℕ) → n ≡ length stmts → n ≤ i → ◌≡◌ {A = Option Stmt} None (slice_get stmts i)
 no_statement_there stmts n i count past = sym (slice_get_past stmts i (omega (arith, count, past)))
-
--- the indices to which a run goes from this statement, where no fault strikes
-abbrev pub IsFollowedBy : ℕ → Stmt → ℕ → Type 0
-IsFollowedBy i (Jump offset) j = j ≡ target i offset
-IsFollowedBy i (JumpEq left right offset) j = (j ≡ i + 1) ⊎ (j ≡ target i offset)
-IsFollowedBy i (JumpLt left right offset) j = (j ≡ i + 1) ⊎ (j ≡ target i offset)
-IsFollowedBy i Halt j = ⊥
-IsFollowedBy i s j = j ≡ i + 1
-
-either_below : (count i j : ℕ) (offset : ℤ) → i + 1 < count → IsInside count i offset → (j ≡ i + 1) ⊎ (j ≡ target i offset) → j < count
-either_below count i j offset next inside (inl e) = omega (arith, e, next)
-either_below count i j offset next inside (inr e) = omega (arith, e, inside.below)
-
-followed_below : (count i j : ℕ) (s : Stmt) → HasNext count i s → JumpsInside count i s → IsFollowedBy i s j → j < count
-followed_below count i j (Jump offset) next inside e = omega (arith, e, inside.below)
-followed_below count i j (JumpEq left right offset) next inside e = either_below count i j offset next inside e
-followed_below count i j (JumpLt left right offset) next inside e = either_below count i j offset next inside e
-followed_below count i j Halt next inside e = absurd e
-followed_below count i j s next inside e = omega (arith, e, next)
-
--- a run of a table, where no fault strikes, stays in it
-pub table_followed : (stmts : List Stmt) (i j : ℕ) (s : Stmt) → IsTable stmts → slice_get stmts i ≡ Some s → IsFollowedBy i s j → j < length stmts
-table_followed stmts i j s h e = followed_below (length stmts) i j s (table_next stmts i s h e) (table_jump stmts i s h e)

@@ -1,27 +1,26 @@
 -- What an honest run does by registers as a function, a pass does by its list of registers.
 use Rattle.std.proofs.Common.{◌≡◌, ℕ, zero, suc, ◌+◌, ◌-◌, ◌%◌, ◌^◌, ◌<◌, ◌≤◌, ◌⊎◌, inl, inr, List, [], ◌∷◌, ◌++◌, length, Option, Some, None, refl, sym, ap, ◌∙◌, subst, arith, get_or-set_other, get_or-set_same, append_assoc, append-nil}
-use Rattle.std.specs.Prelude.{slice_index, slice_set, slice_get, Bool, true, false, nat_lt, nat_le, nat_eq, ◌==◌, ◌&&◌, ◌||◌, if◌then◌else◌, All, is_some}
+use Rattle.std.specs.Prelude.{slice_index, slice_set, slice_get, Bool, true, false, nat_lt, nat_le, nat_eq, ◌==◌, ◌&&◌, ◌||◌, if◌then◌else◌, All}
 use Rattle.std.proofs.Math.ListN.{length-set}
 use Rattle.std.proofs.lemmas.Bool.{cases_eq, eq-eqb, eqb-true, lt-ltb, ltb-true, and_parts, both_ways}
 use Rattle.std.proofs.lemmas.List.{set-get_or}
 use Rattle.std.proofs.lemmas.Option.{get_or_from_slice_get}
 use Rattle.sei_code.specs.Codes.{message_code}
 use Rattle.sei_code.specs.Coded.{sealed, read_of, complement}
-use Rattle.sei_code.specs.Kept.{has_room, pushed, emptied}
+use Rattle.sei_code.specs.Kept.{has_room}
+use Rattle.sei_log.specs.Changes.{change_of}
 use Rattle.sei_log.specs.declared.log.Change.{Change}
 use Rattle.sei_log.specs.declared.notes.Notes as noting
 use Rattle.sei_fault.specs.Tree.{Tree, honest}
-use Rattle.sei_fault.specs.Tree.Tree.{Ask}
-use Rattle.sei_fault.specs.Question.Question.{Value, Written, Test}
-use Rattle.sei_fault.specs.declared.cause.AbortCause.TheVariants.{Notes, Budget, LogFull, OutFull, Code, Bucket}
+use Rattle.sei_fault.specs.declared.cause.AbortCause.TheVariants.{Notes, LogFull, OutFull}
 use Rattle.sei_stmt.specs.declared.stmt.Stmt.{Stmt}
 use Rattle.sei_stmt.specs.declared.stmt.Stmt.TheVariants.{Const, Move, Add, Sub, Input, Load, Store, Emit, Jump, JumpEq, JumpLt, Now, Alloc, Parse, Render, Halt}
 use Rattle.sei_stmt.specs.Table.{HasRegisters, target}
-use Rattle.sei_stmt.specs.Handling.{Parsed, parsed_words, refilled}
-use Rattle.sei_stmt.specs.Machine.{Machine, Setting, After, register, with_register, ends, assign}
+use Rattle.sei_stmt.specs.Handling.{Parsed, parsed_words}
+use Rattle.sei_stmt.specs.Machine.{Machine, Setting, After, register, time_noted, slot_noted, with_register, with_input, emitted, with_bytes, with_code, one_made, stored, with_notes, note_time, note_slot}
 use Rattle.sei_stmt.specs.Machine.Outcome.{Next, Halted, Bad}
 use Rattle.sei_stmt.specs.Slots.{lowest_free, is_admissible, first_free}
-use Rattle.sei_stmt.specs.Statements.{store_bytes, alloc_from, noted_slot, noted_slot_value, lowest_slot, note_slot, parse_first, parse_call, now_tree, noted_now, noted_value, note_now, stored, store_word, store_changed, statement_tree, step_tree, found_tree, read_word, render_words, render_bytes, parse_tree, is_lent}
+use Rattle.sei_stmt.specs.Statements.{same_if, store_if, store_word, emit_if, now_tree, now_by, noted_now, noted_value, alloc_by, fit_if, noted_slot, noted_slot_value, parse_first, bucket_if, parse_call, intact_if, store_bytes, render_if, statement_tree, count_if, step_tree, found_tree, read_word, render_words, render_bytes, parse_tree}
 use Rattle.sei_stmt.specs.Honest.{after}
 use Rattle.sei_stmt.specs.Order.{unparsed, parsed, timed, finished, is_parsed, is_open, may_render, slotted, only, stage_behind, stage_behind_found, stage_onward, stage_after}
 use Rattle.sei_stmt.specs.Runs.{Given, RunState, Ended, Aborted, Misplaced, Unfit, Unfinished, put, write, tick, logged, exec, act}
@@ -47,12 +46,8 @@ tied_put f registers to v w lt same t =
       ];
     }
 
--- one more statement was counted
-abbrev counting : Machine → Machine
-counting m = record m { made = m.made + 1 }
-
-made_tree : (g : Setting) (pc : ℕ) (m : Machine) (st : Stmt) → slice_get g.statements pc ≡ Some st → m.made < g.budget → step_tree g pc m ≡ statement_tree g pc (counting m) st
-made_tree g pc m st is lt = ap (found_tree g pc m) is ∙ ap (λ b. if b then statement_tree g pc (counting m) st else ends m (Bad Budget)) (lt-ltb m.made g.budget lt)
+made_tree : (g : Setting) (pc : ℕ) (m : Machine) (st : Stmt) → slice_get g.statements pc ≡ Some st → m.made < g.budget → step_tree g pc m ≡ statement_tree g pc (one_made m) st
+made_tree g pc m st is lt = ap (found_tree g pc m) is ∙ ap (λ b. count_if b g pc m st) (lt-ltb m.made g.budget lt)
 
 read_sealed : (v : ℕ) → read_of (sealed v) ≡ Some v
 read_sealed v = simp (eq-eqb (complement v) (complement v) refl)
@@ -61,8 +56,8 @@ render_parsed : (stage : ℕ) → may_render stage ≡ true → is_parsed stage 
 render_parsed stage h = lt-ltb 0 stage (omega (arith, ltb-true 1 stage (and_parts _ _ h).0))
 
 -- the tests of the input, with the lent bucket and the call apart
-abbrev parse_there : Option ℕ → Option Parsed → ℕ → Machine → Tree After
-parse_there lent o pc m = Ask (Test (is_some o)) (λ yes. if yes then Ask (Test (is_lent lent o)) (λ yes. if yes then parse_first pc m m.input.items else ends m (Bad Bucket)) else ends m (Bad Code))
+abbrev parse_there : Setting → Option ℕ → Option Parsed → ℕ → Machine → Tree After
+parse_there g lent o pc m = parse_call (record g { lent = lent; parsed = o }) pc m
 
 -- the lowest free slot is free, or all are in use
 first_of : (free : ℕ → Bool) (i n : ℕ) → ((first_free free i n < i + n) × (free (first_free free i n) ≡ true)) ⊎ (first_free free i n ≡ i + n)
@@ -126,7 +121,7 @@ module _ (g : Setting) (rooms : Rooms) (p : Parsed) (now : ℕ) (slot : List ℕ
   later start lo Misplaced h = h
   later start lo Unfinished h = h
 
-  tied_write : (s : RunState) (m : Machine) (to v w : ℕ) → to < 32 → w ≡ v → Tied s m → Tied (write s to v) (with_register (counting m) to w)
+  tied_write : (s : RunState) (m : Machine) (to v w : ℕ) → to < 32 → w ≡ v → Tied s m → Tied (write s to v) (with_register (one_made m) to w)
   tied_write s m to v w lt same t = record {
     registers = tied_put s.regs m.registers to v w lt same t.registers;
     made = omega (arith, t.made);
@@ -141,7 +136,7 @@ module _ (g : Setting) (rooms : Rooms) (p : Parsed) (now : ℕ) (slot : List ℕ
     answers = t.answers;
   }
 
-  tied_tick : (s : RunState) (m : Machine) → Tied s m → Tied (tick s) (counting m)
+  tied_tick : (s : RunState) (m : Machine) → Tied s m → Tied (tick s) (one_made m)
   tied_tick s m t = record {
     registers = t.registers;
     made = omega (arith, t.made);
@@ -158,7 +153,7 @@ module _ (g : Setting) (rooms : Rooms) (p : Parsed) (now : ℕ) (slot : List ℕ
 
   -- one statement more is made
   one_more : (start : Machine) (s : RunState) (m : Machine) (pc : ℕ) (st : Stmt) (x : After) → Tied s m → Stands start s m pc → slice_get g.statements pc ≡ Some st →
-      honest (statement_tree g pc (counting m) st) ≡ x → s.steps < g.budget → after g start (suc s.steps) ≡ x
+      honest (statement_tree g pc (one_made m) st) ≡ x → s.steps < g.budget → after g start (suc s.steps) ≡ x
   one_more start s m pc st x t at is end lt =
       let w = at (omega (arith, lt)) in
       let made : m.made < g.budget = omega (arith, t.made, lt) in
@@ -172,7 +167,7 @@ module _ (g : Setting) (rooms : Rooms) (p : Parsed) (now : ℕ) (slot : List ℕ
       ap (λ o. stage_onward g o (after g start s.steps).outcome) w.1 ∙ ap (λ x. stage_onward g (Some s.stage) x.outcome) w.0 ∙ ap (stage_behind_found s.stage) is ∙ right
 
   goes_on : (start : Machine) (s s1 : RunState) (m m1 : Machine) (pc pc1 : ℕ) (st : Stmt) → Tied s m → Stands start s m pc → slice_get g.statements pc ≡ Some st →
-      honest (statement_tree g pc (counting m) st) ≡ record { machine = m1; outcome = Next pc1 } → stage_behind s.stage st ≡ Some s1.stage → s1.steps ≡ suc s.steps → Stands start s1 m1 pc1
+      honest (statement_tree g pc (one_made m) st) ≡ record { machine = m1; outcome = Next pc1 } → stage_behind s.stage st ≡ Some s1.stage → s1.steps ≡ suc s.steps → Stands start s1 m1 pc1
   goes_on start s s1 m m1 pc pc1 st t at is end right one = λ le.
       let lt : s.steps < g.budget = omega (arith, le, one) in (
         ap (after g start) one ∙ one_more start s m pc st (record { machine = m1; outcome = Next pc1 }) t at is end lt,
@@ -198,20 +193,20 @@ module _ (g : Setting) (rooms : Rooms) (p : Parsed) (now : ℕ) (slot : List ℕ
 
     -- a register gets a value
     writes : (n pc : ℕ) (s : RunState) (m : Machine) (st : Stmt) (to v w : ℕ) → Tie n → Tied s m → Stands start s m pc → slice_get g.statements pc ≡ Some st → to < 32 → w ≡ v →
-        honest (statement_tree g pc (counting m) st) ≡ record { machine = with_register (counting m) to w; outcome = Next (pc + 1) } → stage_behind s.stage st ≡ Some s.stage →
+        honest (statement_tree g pc (one_made m) st) ≡ record { machine = with_register (one_made m) to w; outcome = Next (pc + 1) } → stage_behind s.stage st ≡ Some s.stage →
         Ends start s.steps (exec given g.statements n (pc + 1) (write s to v))
     writes n pc s m st to v w ih t at is lt same end right =
         later start s.steps (exec given g.statements n (pc + 1) (write s to v))
-        (ih (pc + 1) (write s to v) (with_register (counting m) to w) (tied_write s m to v w lt same t)
-        (goes_on start s (write s to v) m (with_register (counting m) to w) pc (pc + 1) st t at is end right refl))
+        (ih (pc + 1) (write s to v) (with_register (one_made m) to w) (tied_write s m to v w lt same t)
+        (goes_on start s (write s to v) m (with_register (one_made m) to w) pc (pc + 1) st t at is end right refl))
 
     -- a statement goes on elsewhere, and changes nothing
     moves : (n pc pc1 : ℕ) (s : RunState) (m : Machine) (st : Stmt) → Tie n → Tied s m → Stands start s m pc → slice_get g.statements pc ≡ Some st →
-        honest (statement_tree g pc (counting m) st) ≡ record { machine = counting m; outcome = Next pc1 } → stage_behind s.stage st ≡ Some s.stage →
+        honest (statement_tree g pc (one_made m) st) ≡ record { machine = one_made m; outcome = Next pc1 } → stage_behind s.stage st ≡ Some s.stage →
         Ends start s.steps (exec given g.statements n pc1 (tick s))
     moves n pc pc1 s m st ih t at is end right =
         later start s.steps (exec given g.statements n pc1 (tick s))
-        (ih pc1 (tick s) (counting m) (tied_tick s m t) (goes_on start s (tick s) m (counting m) pc pc1 st t at is end right refl))
+        (ih pc1 (tick s) (one_made m) (tied_tick s m t) (goes_on start s (tick s) m (one_made m) pc pc1 st t at is end right refl))
 
     same_register : (s : RunState) (m : Machine) (r : ℕ) → Tied s m → r < 32 → register m r ≡ s.regs r
     same_register s m r t lt = t.registers.each r lt
@@ -221,14 +216,14 @@ module _ (g : Setting) (rooms : Rooms) (p : Parsed) (now : ℕ) (slot : List ℕ
     loads n pc s m to a None ih t at is lt lt' word = tt
     loads n pc s m to a (Some v) ih t at is lt lt' word =
         writes n pc s m (Load to a) to v v ih t at is lt refl
-        (read_honest pc (counting m) to (register m a) v (slice_get m.words (register m a)) (ap (λ l. slice_get l (register m a)) t.words ∙ ap (slice_get s.words) (same_register s m a t lt') ∙ word)) refl
+        (read_honest pc (one_made m) to (register m a) v (slice_get m.words (register m a)) (ap (λ l. slice_get l (register m a)) t.words ∙ ap (slice_get s.words) (same_register s m a t lt') ∙ word)) refl
 
     inputs : (n pc : ℕ) (s : RunState) (m : Machine) (to a : ℕ) (o : Option ℕ) → is_parsed s.stage ≡ true → Tie n → Tied s m → Stands start s m pc → slice_get g.statements pc ≡ Some (Input to a) → to < 32 → a < 32 →
         slice_get p.words (s.regs a) ≡ o → Ends start s.steps (runs.with_word o (s.regs a) (λ v. exec given g.statements n (pc + 1) (write s to v)))
     inputs n pc s m to a None begun ih t at is lt lt' word = tt
     inputs n pc s m to a (Some v) begun ih t at is lt lt' word =
         writes n pc s m (Input to a) to v v ih t at is lt refl
-        (read_honest pc (counting m) to (register m a) v (slice_get m.input.items (register m a)) (ap (λ l. slice_get l (register m a)) (t.input begun) ∙ ap (slice_get p.words) (same_register s m a t lt') ∙ word)) (ap (λ b. only b s.stage) begun)
+        (read_honest pc (one_made m) to (register m a) v (slice_get m.input.items (register m a)) (ap (λ l. slice_get l (register m a)) (t.input begun) ∙ ap (slice_get p.words) (same_register s m a t lt') ∙ word)) (ap (λ b. only b s.stage) begun)
 
     staged : (right : Bool) (o : runs.Outcome) (lo : ℕ) → (right ≡ true → Ends start lo o) → Ends start lo (runs.in_stage right o)
     staged false o lo h = tt
@@ -240,15 +235,15 @@ module _ (g : Setting) (rooms : Rooms) (p : Parsed) (now : ℕ) (slot : List ℕ
         honest (store_word pc m from a o) ≡ record { machine = m; outcome = Next (pc + 1) }
     store_same pc m from a old v o is from_is same =
         ap (λ o. honest (store_word pc m from a o)) is
-        ∙ ap (λ b. honest (if b then ends m (Next (pc + 1)) else store_changed pc m a old (register m from))) (ap (λ n. old == n) from_is ∙ same)
+        ∙ ap (λ b. honest (same_if b pc m a old (register m from))) (ap (λ n. old == n) from_is ∙ same)
 
     store_other : (pc : ℕ) (m : Machine) (from a old v : ℕ) (o : Option ℕ) → o ≡ Some old → register m from ≡ v → (old == v) ≡ false → has_room m.log ≡ true →
-        honest (store_word pc m from a o) ≡ record { machine = stored m a old v v; outcome = Next (pc + 1) }
+        honest (store_word pc m from a o) ≡ record { machine = stored m a (change_of a old v) v; outcome = Next (pc + 1) }
     store_other pc m from a old v o is from_is other room =
         ap (λ o. honest (store_word pc m from a o)) is
-        ∙ ap (λ b. honest (if b then ends m (Next (pc + 1)) else store_changed pc m a old (register m from))) (ap (λ n. old == n) from_is ∙ other)
-        ∙ ap (λ n. honest (store_changed pc m a old n)) from_is
-        ∙ ap (λ b. honest (if b then Ask (Written v) (λ w. ends (stored m a old v w) (Next (pc + 1))) else ends m (Bad LogFull))) room
+        ∙ ap (λ b. honest (same_if b pc m a old (register m from))) (ap (λ n. old == n) from_is ∙ other)
+        ∙ ap (λ n. honest (store_if (has_room m.log) pc m a old n)) from_is
+        ∙ ap (λ b. honest (store_if b pc m a old v)) room
 
     stored_words : (ws : List ℕ) (a old v : ℕ) → slice_get ws a ≡ Some old → (old == v) ≡ true → slice_set ws a v ≡ ws
     stored_words ws a old v is same =
@@ -257,12 +252,12 @@ module _ (g : Setting) (rooms : Rooms) (p : Parsed) (now : ℕ) (slot : List ℕ
 
     logged_same : (cs : List Change) (a was old v : ℕ) → was ≡ old → (old == v) ≡ true → logged cs a was v ≡ cs
     unfolding logged
-    logged_same cs a was old v e same = ap (λ b. if b then cs else cs ++ record { address = a; was = was; becomes = v } ∷ []) (ap (λ n. nat_eq n v) e ∙ same)
+    logged_same cs a was old v e same = ap (λ b. if b then cs else cs ++ change_of a was v ∷ []) (ap (λ n. nat_eq n v) e ∙ same)
 
-    logged_other : (cs : List Change) (a was old v : ℕ) → was ≡ old → (old == v) ≡ false → logged cs a was v ≡ cs ++ record { address = a; was = old; becomes = v } ∷ []
+    logged_other : (cs : List Change) (a was old v : ℕ) → was ≡ old → (old == v) ≡ false → logged cs a was v ≡ cs ++ change_of a old v ∷ []
     unfolding logged
     logged_other cs a was old v e other =
-        ap (λ b. if b then cs else cs ++ record { address = a; was = was; becomes = v } ∷ []) (ap (λ n. nat_eq n v) e ∙ other)
+        ap (λ b. if b then cs else cs ++ change_of a was v ∷ []) (ap (λ n. nat_eq n v) e ∙ other)
         ∙ ap (λ n. cs ++ record { address = a; was = n; becomes = v } ∷ []) e
 
     stores : (n pc : ℕ) (s : RunState) (m : Machine) (a from : ℕ) (o : Option ℕ) → Tie n → Tied s m → Stands start s m pc → slice_get g.statements pc ≡ Some (Store a from) → a < 32 → from < 32 →
@@ -283,7 +278,7 @@ module _ (g : Setting) (rooms : Rooms) (p : Parsed) (now : ℕ) (slot : List ℕ
         by_room : (old == s.regs from) ≡ false → (b : Bool) → nat_lt (length s.changes) rooms.log ≡ b → Ends start s.steps (if b then exec given g.statements n (pc + 1) next else Aborted LogFull)
         by_room other false full = tt
         by_room other true room =
-            let m1 = stored (counting m) (register m a) old (s.regs from) (s.regs from) in
+            let m1 = stored (one_made m) (register m a) (change_of (register m a) old (s.regs from)) (s.regs from) in
             later start s.steps (exec given g.statements n (pc + 1) next)
             (ih (pc + 1) next m1
             (record {
@@ -293,21 +288,21 @@ module _ (g : Setting) (rooms : Rooms) (p : Parsed) (now : ℕ) (slot : List ℕ
               out = t.out;
               out_room = t.out_room;
               byte_room = t.byte_room;
-              log = ap (λ l. l ++ record { address = register m a; was = old; becomes = s.regs from } ∷ []) t.log ∙ ap (λ n. s.changes ++ record { address = n; was = old; becomes = s.regs from } ∷ []) (same_register s m a t lt) ∙ sym (logged_other s.changes (s.regs a) (slice_index s.words (s.regs a)) old (s.regs from) was other);
+              log = ap (λ l. l ++ change_of (register m a) old (s.regs from) ∷ []) t.log ∙ ap (λ n. s.changes ++ change_of n old (s.regs from) ∷ []) (same_register s m a t lt) ∙ sym (logged_other s.changes (s.regs a) (slice_index s.words (s.regs a)) old (s.regs from) was other);
               log_room = t.log_room;
               input = t.input;
               done = t.done;
               answers = t.answers;
             })
             (goes_on start s next m m1 pc (pc + 1) (Store a from) t at is
-            (store_other pc (counting m) from (register m a) old (s.regs from) (slice_get m.words (register m a)) here (same_register s m from t lt') other
+            (store_other pc (one_made m) from (register m a) old (s.regs from) (slice_get m.words (register m a)) here (same_register s m from t lt') other
             (ap (λ l. nat_lt (length l) m.log.room) t.log ∙ ap (λ n. nat_lt (length s.changes) n) t.log_room ∙ room))
             refl refl))
 
         by_change : (b : Bool) → (old == s.regs from) ≡ b → Ends start s.steps (if b then exec given g.statements n (pc + 1) next else if nat_lt (length s.changes) rooms.log then exec given g.statements n (pc + 1) next else Aborted LogFull)
         by_change true same =
             later start s.steps (exec given g.statements n (pc + 1) next)
-            (ih (pc + 1) next (counting m)
+            (ih (pc + 1) next (one_made m)
             (record {
               registers = t.registers;
               made = omega (arith, t.made);
@@ -321,8 +316,8 @@ module _ (g : Setting) (rooms : Rooms) (p : Parsed) (now : ℕ) (slot : List ℕ
               done = t.done;
               answers = t.answers;
             })
-            (goes_on start s next m (counting m) pc (pc + 1) (Store a from) t at is
-            (store_same pc (counting m) from (register m a) old (s.regs from) (slice_get m.words (register m a)) here (same_register s m from t lt') same)
+            (goes_on start s next m (one_made m) pc (pc + 1) (Store a from) t at is
+            (store_same pc (one_made m) from (register m a) old (s.regs from) (slice_get m.words (register m a)) here (same_register s m from t lt') same)
             refl refl))
         by_change false other = by_room other (nat_lt (length s.changes) rooms.log) refl
 
@@ -331,7 +326,7 @@ module _ (g : Setting) (rooms : Rooms) (p : Parsed) (now : ℕ) (slot : List ℕ
     emits n pc s m from false begun ih t at is lt full = tt
     emits n pc s m from true begun ih t at is lt room =
         let next = runs.emit s (s.regs from) in
-        let m1 = record (counting m) { output = pushed m.output (register m from) } in
+        let m1 = emitted (one_made m) (register m from) in
         later start s.steps (exec given g.statements n (pc + 1) next)
         (ih (pc + 1) next m1
         (record {
@@ -348,32 +343,32 @@ module _ (g : Setting) (rooms : Rooms) (p : Parsed) (now : ℕ) (slot : List ℕ
           answers = t.answers;
         })
         (goes_on start s next m m1 pc (pc + 1) (Emit from) t at is
-        (ap (λ b. honest (if b then Ask (Value (register m from)) (λ v. Ask (Written v) (λ w. ends (record (counting m) { output = pushed m.output w }) (Next (pc + 1)))) else ends (counting m) (Bad OutFull)))
+        (ap (λ b. honest (emit_if b pc (one_made m) from))
         (ap (λ l. nat_lt (length l) m.output.room) t.out ∙ ap (λ n. nat_lt (length s.out) n) t.out_room ∙ room))
         (ap (λ b. only b s.stage) begun) refl))
 
     -- a jump by two registers
     jumps : (n pc to : ℕ) (s : RunState) (m : Machine) (st : Stmt) (b c : Bool) → Tie n → Tied s m → Stands start s m pc → slice_get g.statements pc ≡ Some st → c ≡ b →
-        honest (statement_tree g pc (counting m) st) ≡ record { machine = counting m; outcome = Next (if c then to else pc + 1) } → stage_behind s.stage st ≡ Some s.stage →
+        honest (statement_tree g pc (one_made m) st) ≡ record { machine = one_made m; outcome = Next (if c then to else pc + 1) } → stage_behind s.stage st ≡ Some s.stage →
         Ends start s.steps (if b then exec given g.statements n to (tick s) else exec given g.statements n (pc + 1) (tick s))
-    jumps n pc to s m st true c ih t at is e end right = moves n pc to s m st ih t at is (end ∙ ap (λ c. record { machine = counting m; outcome = Next (if c then to else pc + 1) }) e) right
-    jumps n pc to s m st false c ih t at is e end right = moves n pc (pc + 1) s m st ih t at is (end ∙ ap (λ c. record { machine = counting m; outcome = Next (if c then to else pc + 1) }) e) right
+    jumps n pc to s m st true c ih t at is e end right = moves n pc to s m st ih t at is (end ∙ ap (λ c. record { machine = one_made m; outcome = Next (if c then to else pc + 1) }) e) right
+    jumps n pc to s m st false c ih t at is e end right = moves n pc (pc + 1) s m st ih t at is (end ∙ ap (λ c. record { machine = one_made m; outcome = Next (if c then to else pc + 1) }) e) right
 
     -- the time
 
     now_ends : (pc : ℕ) (s : RunState) (m : Machine) (to : ℕ) (o : Answers g now slot m.notes) →
-        (notes : noting.Notes) × Answers g now slot notes × (honest (now_tree g pc m to) ≡ record { machine = with_register (record m { notes = notes }) to now; outcome = Next (pc + 1) })
+        (notes : noting.Notes) × Answers g now slot notes × (honest (now_tree g pc m to) ≡ record { machine = with_register (with_notes m notes) to now; outcome = Next (pc + 1) })
     now_ends pc s m to (Made first clock lowest) =
-        let notes = record m.notes { now = Some (sealed now) } in (
+        let notes = time_noted m.notes (sealed now) in (
           notes,
           Made first clock lowest,
-          ap (λ b. honest (if b then noted_now pc m to m.notes.now else Ask (Value g.now) (λ v. assign pc (note_now m g.now) to v))) first
-              ∙ ap (λ n. record { machine = with_register (note_now m n) to n; outcome = Next (pc + 1) }) (sym clock),
+          ap (λ b. honest (now_by b g pc m to)) first
+              ∙ ap (λ n. record { machine = with_register (note_time m (sealed n)) to n; outcome = Next (pc + 1) }) (sym clock),
         )
     now_ends pc s m to (Noted noted second slots is) = (
       m.notes,
       Noted noted second slots is,
-      ap (λ b. honest (if b then noted_now pc m to m.notes.now else Ask (Value g.now) (λ v. assign pc (note_now m g.now) to v))) second
+      ap (λ b. honest (now_by b g pc m to)) second
           ∙ ap (λ n. honest (noted_now pc m to n.now)) is
           ∙ ap (λ o. honest (noted_value pc m to o)) (read_sealed now),
     )
@@ -382,8 +377,8 @@ module _ (g : Setting) (rooms : Rooms) (p : Parsed) (now : ℕ) (slot : List ℕ
         Ends start s.steps (exec given g.statements n (pc + 1) (runs.take_time s to now))
     times n pc s m to stage ih t at is lt =
         let next = runs.take_time s to now in
-        let end = now_ends pc s (counting m) to t.answers in
-        let m1 = with_register (record (counting m) { notes = end.0 }) to now in
+        let end = now_ends pc s (one_made m) to t.answers in
+        let m1 = with_register (with_notes (one_made m) end.0) to now in
         later start s.steps (exec given g.statements n (pc + 1) next)
         (ih (pc + 1) next m1
         (record {
@@ -404,39 +399,39 @@ module _ (g : Setting) (rooms : Rooms) (p : Parsed) (now : ℕ) (slot : List ℕ
     -- a slot
 
     alloc_ends : (pc : ℕ) (m : Machine) (to t v : ℕ) → v ≡ t → (o : Answers g now slot m.notes) → is_admissible g m.words t (slot m.words t) ≡ true →
-        (notes : noting.Notes) × Answers g now slot notes × (honest (alloc_from g pc m to v) ≡ record { machine = with_register (record m { notes = notes }) to (slot m.words t); outcome = Next (pc + 1) })
+        (notes : noting.Notes) × Answers g now slot notes × (honest (alloc_by g.reading g pc m to v) ≡ record { machine = with_register (with_notes m notes) to (slot m.words t); outcome = Next (pc + 1) })
     alloc_ends pc m to t v same (Made first clock lowest) fit =
-        let notes = record m.notes { slot = Some (sealed (slot m.words t)) } in (
+        let notes = slot_noted m.notes (sealed (slot m.words t)) in (
           notes,
           Made first clock lowest,
-          ap (λ n. honest (alloc_from g pc m to n)) same
-              ∙ ap (λ b. honest (if b then noted_slot g pc m to t m.notes.slot else lowest_slot pc m to (lowest_free g m.words t))) first
-              ∙ ap (λ (f : List ℕ → ℕ → ℕ). record { machine = with_register (note_slot m (f m.words t)) to (f m.words t); outcome = Next (pc + 1) }) (sym lowest),
+          ap (λ n. honest (alloc_by g.reading g pc m to n)) same
+              ∙ ap (λ b. honest (alloc_by b g pc m to t)) first
+              ∙ ap (λ (f : List ℕ → ℕ → ℕ). record { machine = with_register (note_slot m (sealed (f m.words t))) to (f m.words t); outcome = Next (pc + 1) }) (sym lowest),
         )
     alloc_ends pc m to t v same (Noted noted second slots is) fit =
         let here : slot m.words t ≡ noted = ap (λ (f : List ℕ → ℕ → ℕ). f m.words t) slots in (
           m.notes,
           Noted noted second slots is,
-          ap (λ n. honest (alloc_from g pc m to n)) same
-              ∙ ap (λ b. honest (if b then noted_slot g pc m to t m.notes.slot else lowest_slot pc m to (lowest_free g m.words t))) second
+          ap (λ n. honest (alloc_by g.reading g pc m to n)) same
+              ∙ ap (λ b. honest (alloc_by b g pc m to t)) second
               ∙ ap (λ n. honest (noted_slot g pc m to t n.slot)) is
               ∙ ap (λ o. honest (noted_slot_value g pc m to t o)) (read_sealed noted)
-              ∙ ap (λ b. honest (if b then Ask (Value noted) (λ v. assign pc m to v) else ends m (Bad Notes))) (ap (is_admissible g m.words t) (sym here) ∙ fit)
+              ∙ ap (λ b. honest (fit_if b pc m to noted)) (ap (is_admissible g m.words t) (sym here) ∙ fit)
               ∙ ap (λ n. record { machine = with_register m to n; outcome = Next (pc + 1) }) (sym here),
         )
 
     unfit_ends : (pc : ℕ) (m : Machine) (to t v : ℕ) → v ≡ t → (o : Answers g now slot m.notes) → is_admissible g m.words t (slot m.words t) ≡ false →
-        (g.reading ≡ true) × (honest (alloc_from g pc m to v) ≡ record { machine = m; outcome = Bad Notes })
+        (g.reading ≡ true) × (honest (alloc_by g.reading g pc m to v) ≡ record { machine = m; outcome = Bad Notes })
     unfit_ends pc m to t v same (Made first clock lowest) unfit =
         absurd (both_ways (is_admissible g m.words t (slot m.words t)) unfit (ap (λ (f : List ℕ → ℕ → ℕ). is_admissible g m.words t (f m.words t)) lowest ∙ lowest_admissible g m.words t))
     unfit_ends pc m to t v same (Noted noted second slots is) unfit =
         let here : slot m.words t ≡ noted = ap (λ (f : List ℕ → ℕ → ℕ). f m.words t) slots in (
           second,
-          ap (λ n. honest (alloc_from g pc m to n)) same
-              ∙ ap (λ b. honest (if b then noted_slot g pc m to t m.notes.slot else lowest_slot pc m to (lowest_free g m.words t))) second
+          ap (λ n. honest (alloc_by g.reading g pc m to n)) same
+              ∙ ap (λ b. honest (alloc_by b g pc m to t)) second
               ∙ ap (λ n. honest (noted_slot g pc m to t n.slot)) is
               ∙ ap (λ o. honest (noted_slot_value g pc m to t o)) (read_sealed noted)
-              ∙ ap (λ b. honest (if b then Ask (Value noted) (λ v. assign pc m to v) else ends m (Bad Notes))) (ap (is_admissible g m.words t) (sym here) ∙ unfit),
+              ∙ ap (λ b. honest (fit_if b pc m to noted)) (ap (is_admissible g m.words t) (sym here) ∙ unfit),
         )
 
     slots : (n pc : ℕ) (s : RunState) (m : Machine) (to moment : ℕ) (b : Bool) → s.stage ≡ timed → Tie n → Tied s m → Stands start s m pc → slice_get g.statements pc ≡ Some (Alloc to moment) → to < 32 → moment < 32 →
@@ -444,8 +439,8 @@ module _ (g : Setting) (rooms : Rooms) (p : Parsed) (now : ℕ) (slot : List ℕ
         Ends start s.steps (if b then exec given g.statements n (pc + 1) (runs.take_slot s to (slot s.words (s.regs moment))) else Unfit s)
     slots n pc s m to moment true stage ih t at is lt lt' fit =
         let next = runs.take_slot s to (slot s.words (s.regs moment)) in
-        let end = alloc_ends pc (counting m) to (s.regs moment) (register m moment) (same_register s m moment t lt') t.answers (ap (λ l. is_admissible g l (s.regs moment) (slot l (s.regs moment))) t.words ∙ fit) in
-        let m1 = with_register (record (counting m) { notes = end.0 }) to (slot m.words (s.regs moment)) in
+        let end = alloc_ends pc (one_made m) to (s.regs moment) (register m moment) (same_register s m moment t lt') t.answers (ap (λ l. is_admissible g l (s.regs moment) (slot l (s.regs moment))) t.words ∙ fit) in
+        let m1 = with_register (with_notes (one_made m) end.0) to (slot m.words (s.regs moment)) in
         later start s.steps (exec given g.statements n (pc + 1) next)
         (ih (pc + 1) next m1
         (record {
@@ -463,27 +458,27 @@ module _ (g : Setting) (rooms : Rooms) (p : Parsed) (now : ℕ) (slot : List ℕ
         })
         (goes_on start s next m m1 pc (pc + 1) (Alloc to moment) t at is end.2 (ap (λ n. only (n == timed) slotted) stage) refl))
     slots n pc s m to moment false stage ih t at is lt lt' unfit =
-        let end = unfit_ends pc (counting m) to (s.regs moment) (register m moment) (same_register s m moment t lt') t.answers (ap (λ l. is_admissible g l (s.regs moment) (slot l (s.regs moment))) t.words ∙ unfit) in
-        (omega arith, λ le. (end.0, counting m, one_more start s m pc (Alloc to moment) (record { machine = counting m; outcome = Bad Notes }) t at is end.1 le))
+        let end = unfit_ends pc (one_made m) to (s.regs moment) (register m moment) (same_register s m moment t lt') t.answers (ap (λ l. is_admissible g l (s.regs moment) (slot l (s.regs moment))) t.words ∙ unfit) in
+        (omega arith, λ le. (end.0, one_made m, one_more start s m pc (Alloc to moment) (record { machine = one_made m; outcome = Bad Notes }) t at is end.1 le))
 
     -- the input
 
-    parse_ends : (pc : ℕ) (m : Machine) → honest (parse_tree g pc m) ≡ record { machine = record m { input = refilled m.input p.words }; outcome = Next (pc + 1) }
+    parse_ends : (pc : ℕ) (m : Machine) → honest (parse_tree g pc m) ≡ record { machine = with_input m p.words; outcome = Next (pc + 1) }
     parse_ends pc m =
-        ap (λ b. honest (if b then parse_call g pc (record m { input = refilled m.input (parsed_words g.parsed) }) else ends m (Bad Code))) served.intact
-        ∙ ap (λ o. honest (parse_there g.lent o pc (record m { input = refilled m.input (parsed_words o) }))) served.parsed
-        ∙ ap (λ o. honest (parse_there o (Some p) pc (record m { input = refilled m.input p.words }))) served.lent
-        ∙ ap (λ b. honest (if b then parse_first pc (record m { input = refilled m.input p.words }) p.words else ends (record m { input = refilled m.input p.words }) (Bad Bucket))) (eq-eqb p.bucket p.bucket refl)
+        ap (λ b. honest (intact_if b g pc m)) served.intact
+        ∙ ap (λ o. honest (parse_there g g.lent o pc (with_input m (parsed_words o)))) served.parsed
+        ∙ ap (λ o. honest (parse_there g o (Some p) pc (with_input m p.words))) served.lent
+        ∙ ap (λ b. honest (bucket_if b pc (with_input m p.words))) (eq-eqb p.bucket p.bucket refl)
         ∙ filled p.words
       where
-        filled : (ws : List ℕ) → honest (parse_first pc (record m { input = refilled m.input ws }) ws) ≡ record { machine = record m { input = refilled m.input ws }; outcome = Next (pc + 1) }
+        filled : (ws : List ℕ) → honest (parse_first pc (with_input m ws) ws) ≡ record { machine = with_input m ws; outcome = Next (pc + 1) }
         filled [] = refl
         filled (w ∷ ws) = refl
 
     parses : (n pc : ℕ) (s : RunState) (m : Machine) → s.stage ≡ unparsed → Tie n → Tied s m → Stands start s m pc → slice_get g.statements pc ≡ Some Parse → Ends start s.steps (exec given g.statements n (pc + 1) (runs.parse s))
     parses n pc s m stage ih t at is =
         let next = runs.parse s in
-        let m1 = record (counting m) { input = refilled m.input p.words } in
+        let m1 = with_input (one_made m) p.words in
         later start s.steps (exec given g.statements n (pc + 1) next)
         (ih (pc + 1) next m1
         (record {
@@ -499,24 +494,24 @@ module _ (g : Setting) (rooms : Rooms) (p : Parsed) (now : ℕ) (slot : List ℕ
           done = λ e. absurd (omega (arith, e));
           answers = t.answers;
         })
-        (goes_on start s next m m1 pc (pc + 1) Parse t at is (parse_ends pc (counting m)) (ap (λ n. only (n == unparsed) parsed) stage) refl))
+        (goes_on start s next m m1 pc (pc + 1) Parse t at is (parse_ends pc (one_made m)) (ap (λ n. only (n == unparsed) parsed) stage) refl))
 
     -- the output bytes
 
-    store_ends : (pc : ℕ) (m : Machine) (bs : List ℕ) → All (λ b. b < 256) bs → honest (store_bytes pc m bs) ≡ record { machine = record m { bytes = refilled m.bytes bs }; outcome = Next (pc + 1) }
+    store_ends : (pc : ℕ) (m : Machine) (bs : List ℕ) → All (λ b. b < 256) bs → honest (store_bytes pc m bs) ≡ record { machine = with_bytes m bs; outcome = Next (pc + 1) }
     store_ends pc m [] small = refl
     store_ends pc m (b ∷ bs) small =
         let low = small 0 0 (omega arith) in
         let same : b % 2 ^ 8 ≡ b = omega (arith, low) in
-        ap (λ n. record { machine = record m { bytes = refilled m.bytes (n ∷ bs) }; outcome = Next (pc + 1) }) same
+        ap (λ n. record { machine = with_bytes m (n ∷ bs); outcome = Next (pc + 1) }) same
 
     bytes_end : (pc : ℕ) (m : Machine) (bs : List ℕ) → g.rendered m.output.items ≡ Some bs → nat_le (length bs) m.bytes.room ≡ true →
-        honest (statement_tree g pc m Render) ≡ record { machine = record m { bytes = refilled m.bytes bs; code = Some (message_code g.answer bs) }; outcome = Next (pc + 1) }
+        honest (statement_tree g pc m Render) ≡ record { machine = with_bytes (with_code m (message_code g.answer bs)) bs; outcome = Next (pc + 1) }
     bytes_end pc m bs is room =
         render_honest pc m [] m.output.items
         ∙ ap (λ o. honest (render_bytes g pc m o)) is
-        ∙ ap (λ b. honest (if b then store_bytes pc (record m { code = Some (message_code g.answer bs) }) bs else ends (record m { bytes = emptied m.bytes }) (Bad OutFull))) room
-        ∙ store_ends pc (record m { code = Some (message_code g.answer bs) }) bs (bytes_fit m.output.items bs is)
+        ∙ ap (λ b. honest (render_if b g pc m bs)) room
+        ∙ store_ends pc (with_code m (message_code g.answer bs)) bs (bytes_fit m.output.items bs is)
 
     renders : (n pc : ℕ) (s : RunState) (m : Machine) (o : Option (List ℕ)) → may_render s.stage ≡ true → Tie n → Tied s m → Stands start s m pc → slice_get g.statements pc ≡ Some Render →
         g.rendered s.out ≡ o → Ends start s.steps (runs.with_bytes o rooms.bytes (λ bytes. exec given g.statements n (pc + 1) (runs.render s bytes)))
@@ -529,7 +524,7 @@ module _ (g : Setting) (rooms : Rooms) (p : Parsed) (now : ℕ) (slot : List ℕ
         by_room : (b : Bool) → nat_le (length bs) rooms.bytes ≡ b → Ends start s.steps (if b then exec given g.statements n (pc + 1) (runs.render s bs) else Aborted OutFull)
         by_room false full = tt
         by_room true room =
-            let m1 = record (counting m) { bytes = refilled m.bytes bs; code = Some (message_code g.answer bs) } in
+            let m1 = with_bytes (with_code (one_made m) (message_code g.answer bs)) bs in
             later start s.steps (exec given g.statements n (pc + 1) (runs.render s bs))
             (ih (pc + 1) (runs.render s bs) m1
             (record {
@@ -546,15 +541,15 @@ module _ (g : Setting) (rooms : Rooms) (p : Parsed) (now : ℕ) (slot : List ℕ
               answers = t.answers;
             })
             (goes_on start s (runs.render s bs) m m1 pc (pc + 1) Render t at is
-            (bytes_end pc (counting m) bs (ap g.rendered t.out ∙ out) (ap (nat_le (length bs)) t.byte_room ∙ room))
+            (bytes_end pc (one_made m) bs (ap g.rendered t.out ∙ out) (ap (nat_le (length bs)) t.byte_room ∙ room))
             (ap (λ b. only b finished) begun) refl))
 
     halts_here : (pc : ℕ) (s : RunState) (m : Machine) → s.stage ≡ finished → Tied s m → Stands start s m pc → slice_get g.statements pc ≡ Some Halt → Ends start s.steps (Ended (tick s))
     halts_here pc s m stage t at is = (
       omega arith,
       λ le. (
-        counting m,
-        one_more start s m pc Halt (record { machine = counting m; outcome = Halted }) t at is refl (omega (arith, le)),
+        one_made m,
+        one_more start s m pc Halt (record { machine = one_made m; outcome = Halted }) t at is refl (omega (arith, le)),
         one_stage start s m pc Halt finished at is (ap (λ n. only (n == finished) finished) stage) (omega (arith, le)),
         tied_tick s m t,
       ),

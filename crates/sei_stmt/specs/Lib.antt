@@ -10,5 +10,6 @@ pub mod Sound
 pub mod Runs
 pub mod Given
 pub mod Programs
+pub mod Written
 pub mod Touch
 pub mod Asked

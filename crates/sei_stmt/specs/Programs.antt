@@ -1,6 +1,8 @@
 -- Programs with structure, the statements that they stand for, and what is asked before one for a fact
 -- to hold behind it.
-use Rattle.std.specs.Prelude.{true, ◌≡◌, ◌≢◌, ◌⊎◌, ℕ, zero, suc, ◌+◌, ◌-◌, ◌%◌, ◌^◌, ◌<◌, ◌≤◌, List, [], ◌∷◌, ◌++◌, length, Some, slice_get, pos, negsuc}
+use Rattle.std.specs.Prelude.{Bool, true, false, ◌&&◌, ◌≡◌, ◌≢◌, ◌⊎◌, ℕ, zero, suc, ◌+◌, ◌-◌, ◌%◌, ◌^◌, ◌<◌, ◌≤◌, List, [], ◌∷◌, ◌++◌, length, take, drop, Some, slice_get, ℤ, pos, negsuc}
+use Rattle.std.specs.List.{list_all}
+use Rattle.sei_stmt.specs.Table.{is_register, registers_fit}
 use Rattle.sei_stmt.specs.declared.stmt.Stmt.{Stmt}
 use Rattle.sei_stmt.specs.declared.stmt.Stmt.TheVariants.{Const, Move, Add, Sub, Input, Load, Store, Emit, Jump, JumpEq, JumpLt, Now, Alloc, Parse, Render, Halt}
 use Rattle.sei_stmt.specs.Order.{unparsed, parsed, timed, is_parsed, is_open, may_render}
@@ -13,28 +15,56 @@ pub data Prog : Type 0 where
   -- by what two registers hold
   IfEq : (left right : ℕ) (yes_part : Prog) (no_part : Prog) → Prog
   IfLt : (left right : ℕ) (yes_part : Prog) (no_part : Prog) → Prog
-  -- while left is less than right
-  WhileLt : (left right : ℕ) (body : Prog) → Prog
+  -- the body, and again while left is less than right
+  RepeatLt : (left right : ℕ) (body : Prog) → Prog
 
--- a choice: the jump to the first side, the second side with a jump over the first, and the first side
-abbrev pub choice : Stmt → List Stmt → List Stmt → List Stmt
-choice test yes_code no_code = test ∷ (no_code ++ (Jump (pos (length yes_code)) ∷ yes_code))
+-- a jump over this many statements, if there are any
+abbrev pub hop : ℕ → List Stmt
+hop zero = []
+hop (suc n) = Jump (pos (suc n)) ∷ []
 
--- a loop: a jump to the test, the body, and the test, which jumps back to the body
+-- a choice: the jump over the second side, the second side, and the first side
+abbrev pub choice : (ℤ → Stmt) → List Stmt → List Stmt → List Stmt
+choice test yes_code no_code = test (pos (length no_code)) ∷ (no_code ++ yes_code)
+
+-- a loop: the body, and the test, which jumps back to the body
 abbrev pub looped : (left right : ℕ) → List Stmt → List Stmt
-looped l r body = Jump (pos (length body)) ∷ (body ++ JumpLt l r (negsuc (length body)) ∷ [])
+looped l r body = body ++ JumpLt l r (negsuc (length body)) ∷ []
+
+-- the statements of a program after which the run goes on at the k-th statement after their end. The second
+-- side of a choice ends in one jump, over the first side and those k, and in none if there is nothing to
+-- jump over
+abbrev pub code : Prog → ℕ → List Stmt
+code (Block stmts) k = stmts ++ hop k
+code (Seq p q) k = code p 0 ++ code q k
+code (IfEq l r p q) k = let yes_code = code p k in choice (JumpEq l r) yes_code (code q (length yes_code + k))
+code (IfLt l r p q) k = let yes_code = code p k in choice (JumpLt l r) yes_code (code q (length yes_code + k))
+code (RepeatLt l r b) k = looped l r (code b 0) ++ hop k
 
 -- the statements of a program
 abbrev pub flatten : Prog → List Stmt
-flatten (Block stmts) = stmts
-flatten (Seq p q) = flatten p ++ flatten q
-flatten (IfEq l r p q) = choice (JumpEq l r (pos (length (flatten q) + 1))) (flatten p) (flatten q)
-flatten (IfLt l r p q) = choice (JumpLt l r (pos (length (flatten q) + 1))) (flatten p) (flatten q)
-flatten (WhileLt l r b) = looped l r (flatten b)
+flatten p = code p 0
 
 -- the table of a program
 abbrev pub table_of : Prog → List Stmt
 table_of p = flatten p ++ Halt ∷ []
+
+-- a statement of a block is no jump and no Halt, and its registers are there
+abbrev pub is_plain : Stmt → Bool
+is_plain (Jump o) = false
+is_plain (JumpEq l r o) = false
+is_plain (JumpLt l r o) = false
+is_plain Halt = false
+is_plain s = registers_fit s
+
+-- each block of the program has such statements alone, and its tests name registers. It is `refl` at a program
+-- that is written out
+abbrev pub is_straight : Prog → Bool
+is_straight (Block stmts) = list_all is_plain stmts
+is_straight (Seq p q) = is_straight p && is_straight q
+is_straight (IfEq l r p q) = (is_register l && is_register r) && (is_straight p && is_straight q)
+is_straight (IfLt l r p q) = (is_register l && is_register r) && (is_straight p && is_straight q)
+is_straight (RepeatLt l r b) = (is_register l && is_register r) && is_straight b
 
 -- the word at this place
 abbrev pub HasWord : List ℕ → ℕ → ℕ → Type 0
@@ -95,16 +125,24 @@ Ends e (Block stmts) s Q = BeforeAll e stmts s Q
 Ends e (Seq p q) s Q = Ends e p s (λ t. Ends e q t Q)
 Ends e (IfEq l r p q) s Q = (s.regs l ≡ s.regs r → Ends e p (tick s) Q) × (s.regs l ≢ s.regs r → Ends e q (tick s) (λ t. Q (tick t)))
 Ends e (IfLt l r p q) s Q = (s.regs l < s.regs r → Ends e p (tick s) Q) × (s.regs r ≤ s.regs l → Ends e q (tick s) (λ t. Q (tick t)))
-Ends e (WhileLt l r b) s Q = (n : ℕ) × Turns n l r (Ends e b) (tick s) Q
+Ends e (RepeatLt l r b) s Q = (n : ℕ) × Ends e b s (λ t. Turns n l r (Ends e b) t Q)
 
--- the table, run from its first statement, comes to its Halt in a state that meets Q, or to an Alloc
--- whose answer is not fit. The run makes n statements, with Halt
+-- the state with another count of statements
+abbrev pub at_steps : RunState → ℕ → RunState
+at_steps s n = record s { steps = n }
+
+-- The table, run from its first statement, comes to its Halt in a state that meets Q, or to an Alloc whose
+-- answer is not fit. The run makes n statements, with Halt. Q is over statements counted at most, since a
+-- program counts each jump that a choice may have: the run ends in t but for their count, which is exact
 abbrev pub Halts : Given → List Stmt → RunState → Post → Type 0
 Halts e table s Q =
-    ((n : ℕ) × (t : RunState) × (n + s.steps ≡ suc t.steps) × (exec e table n 0 s ≡ Ended (tick t)) × Q t) ⊎ ((n : ℕ) × (u : RunState) × (u.steps < e.budget) × (exec e table n 0 s ≡ Unfit u))
+    ((n : ℕ) × (t : RunState) × (n + s.steps ≤ suc t.steps) × (exec e table n 0 s ≡ Ended (at_steps t (n + s.steps))) × Q t) ⊎ ((n : ℕ) × (u : RunState) × (u.steps < e.budget) × (exec e table n 0 s ≡ Unfit u))
 
--- one of several programs, by what register v holds: n for the first, and last where none has the number.
--- Register t holds the numbers that are compared
-abbrev pub switch : (v t : ℕ) → ℕ → List Prog → Prog → Prog
-switch v t n [] last = last
-switch v t n (p ∷ ps) last = Seq (Block (Const t n ∷ [])) (IfEq v t p (switch v t (n + 1) ps last))
+-- One of 2 ^ depth programs, by what register v holds: lo for the first, and the empty program for a number
+-- that has none. A number past all of these chooses as the last of them does. Register t gets the numbers that
+-- are compared
+abbrev pub halves : (depth v t lo : ℕ) → List Prog → Prog
+halves zero v t lo [] = Block []
+halves zero v t lo (p ∷ ps) = p
+halves (suc d) v t lo ps =
+    Seq (Block (Const t (lo + 2 ^ d) ∷ [])) (IfLt v t (halves d v t lo (take (2 ^ d) ps)) (halves d v t (lo + 2 ^ d) (drop (2 ^ d) ps)))

@@ -2,6 +2,7 @@
 use Rattle.std.specs.Prelude.{◌≡◌, Bool, ℕ, zero, suc, ◌+◌, ◌-◌, ◌%◌, ◌^◌, ◌≤◌, List, [], ◌∷◌, ◌++◌, length, Option, Some, None, nat_lt, nat_le, nat_eq, if◌then◌else◌, slice_get, slice_index, slice_set}
 use Rattle.sei_fault.specs.declared.cause.AbortCause.{AbortCause}
 use Rattle.sei_fault.specs.declared.cause.AbortCause.TheVariants.{Range, Table, LogFull, OutFull, Output}
+use Rattle.sei_log.specs.Changes.{change_of}
 use Rattle.sei_log.specs.declared.log.Change.{Change}
 use Rattle.sei_stmt.specs.Table.{target}
 use Rattle.sei_stmt.specs.Order.{unparsed, parsed, timed, slotted, finished, is_parsed, is_open, may_render}
@@ -70,7 +71,7 @@ write s to v = record s { regs = put s.regs to v; steps = suc s.steps }
 
 -- the log behind a store at `a` of v, where old stood. To store the same word is no change
 unfoldable pub logged : List Change → (a old v : ℕ) → List Change
-logged changes a old v = if nat_eq old v then changes else changes ++ record { address = a; was = old; becomes = v } ∷ []
+logged changes a old v = if nat_eq old v then changes else changes ++ change_of a old v ∷ []
 
 abbrev pub store : RunState → (a v : ℕ) → RunState
 store s a v = record s { words = slice_set s.words a v; changes = logged s.changes a (slice_index s.words a) v; stores = suc s.stores; floor = suc a; steps = suc s.steps }

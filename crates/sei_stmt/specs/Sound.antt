@@ -34,20 +34,21 @@ pub data Serves (g : Setting) (Held : List ℕ → Type 0) (reply : List ℕ) (s
   Well : (end : Machine) (steps : ℕ) → EndsWell g Held reply start end steps → Serves g Held reply start
   Unfit : g.reading ≡ true → (m : Machine) (n : ℕ) → after g start n ≡ record { machine = m; outcome = Bad Notes } → Serves g Held reply start
 
--- a handler is sound for a space and for what words stand for: from words that stand for B, each pass of a call of
--- an input leads to words that stand for what the answer leaves, with the answer's reply
-pub record IsSound {B : Type 0} (statements : List Stmt) (parsed : List ℕ → ℕ → Option Parsed) (rendered : List ℕ → Option (List ℕ)) (space : Space)
-    (Stands : List ℕ → B → Type 0) (answer : List ℕ → ℕ → B → ℕ → B × List ℕ) : Type 0 where
+-- A handler is sound for the space of each call, an input and a number, and for two relations of words to a B. From words on which
+-- a run for B starts (Before), each pass of a call in its space leads to words that stand for what the answer leaves (Stands), with
+-- the answer's reply.
+pub record IsSound {B : Type 0} (statements : List Stmt) (parsed : List ℕ → ℕ → Option Parsed) (rendered : List ℕ → Option (List ℕ)) (space : List ℕ → ℕ → Space)
+    (Before Stands : List ℕ → B → Type 0) (answer : List ℕ → ℕ → B → ℕ → B × List ℕ) : Type 0 where
   pub serves : (input : List ℕ) → All (λ b. b < 256) input → (nth : ℕ) (p : Parsed) → parsed input nth ≡ Some p →
-      (g : Setting) → IsPassOf statements rendered space g → IsServed g p →
-      (words : List ℕ) (b : B) → Stands words b → (now : ℕ) → now < 2 ^ 64 → (notes : noting.Notes) → IsTold g now notes →
-      Serves g (λ ws. Stands ws (answer input nth b now).0) (answer input nth b now).1 (beginning space.rooms words notes)
+      (g : Setting) → IsPassOf statements rendered (space input nth) g → IsServed g p →
+      (words : List ℕ) (b : B) → Before words b → (now : ℕ) → now < 2 ^ 64 → (notes : noting.Notes) → IsTold g now notes →
+      Serves g (λ ws. Stands ws (answer input nth b now).0) (answer input nth b now).1 (beginning (space input nth).rooms words notes)
 
 -- a handler is sound for so many buckets too: its table parses first, and its calls of each input are those whose numbers
 -- are below their number, each for a bucket that is there
 pub record IsSoundHandler {B : Type 0} (statements : List Stmt) (calls : List ℕ → Option ℕ) (parsed : List ℕ → ℕ → Option Parsed) (rendered : List ℕ → Option (List ℕ))
-    (space : Space) (buckets : ℕ) (Stands : List ℕ → B → Type 0) (answer : List ℕ → ℕ → B → ℕ → B × List ℕ) : Type 0 where
-  pub sound : IsSound statements parsed rendered space Stands answer
+    (space : List ℕ → ℕ → Space) (buckets : ℕ) (Before Stands : List ℕ → B → Type 0) (answer : List ℕ → ℕ → B → ℕ → B × List ℕ) : Type 0 where
+  pub sound : IsSound statements parsed rendered space Before Stands answer
   pub parses : slice_get statements 0 ≡ Some Parse
   pub counted : (input : List ℕ) (nth count : ℕ) → calls input ≡ Some count → nth < count → (p : Parsed) × (parsed input nth ≡ Some p)
   pub found : (input : List ℕ) (nth : ℕ) (p : Parsed) → parsed input nth ≡ Some p → (count : ℕ) × (calls input ≡ Some count) × (nth < count)

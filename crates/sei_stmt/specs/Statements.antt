@@ -1,17 +1,18 @@
 -- What each statement does, as the questions that it asks a core, in order, and what it makes of the answers.
-use Rattle.std.specs.Prelude.{ℕ, ◌+◌, ◌-◌, ◌%◌, ◌^◌, Bool, false, ◌==◌, nat_lt, nat_le, List, [], ◌∷◌, ◌++◌, length, Option, Some, None, is_some, slice_get, slice_set, if◌then◌else◌}
+use Rattle.std.specs.Prelude.{ℕ, ◌+◌, ◌-◌, ◌%◌, ◌^◌, Bool, false, ◌==◌, nat_lt, nat_le, List, [], ◌∷◌, ◌++◌, length, Option, Some, None, is_some, slice_get, if◌then◌else◌}
 use Rattle.sei_code.specs.Codes.{message_code}
 use Rattle.sei_code.specs.Coded.{sealed, read_of}
-use Rattle.sei_code.specs.Kept.{has_room, pushed, emptied}
+use Rattle.sei_code.specs.Kept.{has_room}
 use Rattle.sei_code.specs.declared.coded.Coded.{Coded}
+use Rattle.sei_log.specs.Changes.{change_of}
 use Rattle.sei_fault.specs.declared.cause.AbortCause.TheVariants.{Code, Range, Table, Budget, LogFull, OutFull, Output, Bucket, Notes}
 use Rattle.sei_fault.specs.Tree.{Tree}
 use Rattle.sei_fault.specs.Tree.Tree.{Ask}
 use Rattle.sei_fault.specs.Question.Question.{Value, Written, Test}
 use Rattle.sei_stmt.specs.declared.stmt.Stmt.{Stmt}
 use Rattle.sei_stmt.specs.declared.stmt.Stmt.TheVariants.{Const, Move, Add, Sub, Input, Load, Store, Emit, Jump, JumpEq, JumpLt, Now, Alloc, Parse, Render, Halt}
-use Rattle.sei_stmt.specs.Handling.{Parsed, parsed_words, refilled}
-use Rattle.sei_stmt.specs.Machine.{Machine, Setting, After, register, ends, assign}
+use Rattle.sei_stmt.specs.Handling.{Parsed, parsed_words}
+use Rattle.sei_stmt.specs.Machine.{Machine, Setting, After, register, with_input, emitted, with_bytes, with_code, one_made, stored, note_time, note_slot, ends, assign}
 use Rattle.sei_stmt.specs.Machine.Outcome.{Next, Halted, Bad}
 use Rattle.sei_stmt.specs.Slots.{lowest_free, is_admissible}
 use Rattle.sei_stmt.specs.Table.{target}
@@ -44,51 +45,50 @@ input_tree i m to index = Ask (Value (register m index)) (λ a. read_word i m to
 abbrev pub load_tree : ℕ → Machine → ℕ → ℕ → Tree After
 load_tree i m to address = Ask (Value (register m address)) (λ a. read_word i m to a (slice_get m.words a))
 
-abbrev pub stored : Machine → ℕ → ℕ → ℕ → ℕ → Machine
-stored m a was becomes w =
-    record m { words = slice_set m.words a w; log = pushed m.log (record { address = a; was = was; becomes = becomes }) }
-
--- the old value is logged, and then the new one is written
-abbrev pub store_changed : ℕ → Machine → ℕ → ℕ → ℕ → Tree After
-store_changed i m a was v =
-    if has_room m.log
-    then Ask (Written v) (λ w. ends (stored m a was v w) (Next (i + 1)))
+-- the old value is logged, and then the new one is written, if the log has room
+abbrev pub store_if : Bool → ℕ → Machine → ℕ → ℕ → ℕ → Tree After
+store_if room i m a was v =
+    if room
+    then Ask (Written v) (λ w. ends (stored m a (change_of a was v) w) (Next (i + 1)))
     else ends m (Bad LogFull)
 
 -- what would change nothing is not stored, and not logged
+abbrev pub same_if : Bool → ℕ → Machine → ℕ → ℕ → ℕ → Tree After
+same_if same i m a was v = if same then ends m (Next (i + 1)) else store_if (has_room m.log) i m a was v
+
 abbrev pub store_word : ℕ → Machine → ℕ → ℕ → Option ℕ → Tree After
 store_word i m from a None = ends m (Bad (Range a))
 store_word i m from a (Some word) =
-    Ask (Value (register m from)) (λ v. Ask (Value word) (λ was. Ask (Test (was == v)) (λ same.
-    if same then ends m (Next (i + 1)) else store_changed i m a was v)))
+    Ask (Value (register m from)) (λ v. Ask (Value word) (λ was. Ask (Test (was == v)) (λ same. same_if same i m a was v)))
 
 abbrev pub store_tree : ℕ → Machine → ℕ → ℕ → Tree After
 store_tree i m address from = Ask (Value (register m address)) (λ a. store_word i m from a (slice_get m.words a))
 
 -- output words
 
-abbrev pub emit_tree : ℕ → Machine → ℕ → Tree After
-emit_tree i m from =
-    if has_room m.output
-    then Ask (Value (register m from)) (λ v. Ask (Written v) (λ w. ends (record m { output = pushed m.output w }) (Next (i + 1))))
+abbrev pub emit_if : Bool → ℕ → Machine → ℕ → Tree After
+emit_if room i m from =
+    if room
+    then Ask (Value (register m from)) (λ v. Ask (Written v) (λ w. ends (emitted m w) (Next (i + 1))))
     else ends m (Bad OutFull)
+
+abbrev pub emit_tree : ℕ → Machine → ℕ → Tree After
+emit_tree i m from = emit_if (has_room m.output) i m from
 
 -- jumps
 
+abbrev pub go_if : Bool → ℕ → Machine → ℕ → Tree After
+go_if goes i m to = ends m (Next (if goes then to else i + 1))
+
 abbrev pub equal_tree : ℕ → Machine → ℕ → ℕ → ℕ → Tree After
 equal_tree i m left right to =
-    Ask (Value (register m left)) (λ a. Ask (Value (register m right)) (λ b. Ask (Test (a == b)) (λ yes.
-    ends m (Next (if yes then to else i + 1)))))
+    Ask (Value (register m left)) (λ a. Ask (Value (register m right)) (λ b. Ask (Test (a == b)) (λ goes. go_if goes i m to)))
 
 abbrev pub less_tree : ℕ → Machine → ℕ → ℕ → ℕ → Tree After
 less_tree i m left right to =
-    Ask (Value (register m left)) (λ a. Ask (Value (register m right)) (λ b. Ask (Test (nat_lt a b)) (λ yes.
-    ends m (Next (if yes then to else i + 1)))))
+    Ask (Value (register m left)) (λ a. Ask (Value (register m right)) (λ b. Ask (Test (nat_lt a b)) (λ goes. go_if goes i m to)))
 
 -- the time: the first pass asks the clock and notes its answer, the second goes by the note
-
-abbrev pub note_now : Machine → ℕ → Machine
-note_now m now = record m { notes = record m.notes { now = Some (sealed now) } }
 
 abbrev pub noted_value : ℕ → Machine → ℕ → Option ℕ → Tree After
 noted_value i m to None = ends m (Bad Code)
@@ -98,35 +98,37 @@ abbrev pub noted_now : ℕ → Machine → ℕ → Option Coded → Tree After
 noted_now i m to None = ends m (Bad Notes)
 noted_now i m to (Some note) = noted_value i m to (read_of note)
 
+abbrev pub told_now : ℕ → Machine → ℕ → ℕ → Tree After
+told_now i m to now = Ask (Value now) (λ v. assign i (note_time m (sealed now)) to v)
+
+abbrev pub now_by : Bool → Setting → ℕ → Machine → ℕ → Tree After
+now_by reading g i m to = if reading then noted_now i m to m.notes.now else told_now i m to g.now
+
 abbrev pub now_tree : Setting → ℕ → Machine → ℕ → Tree After
-now_tree g i m to =
-    if g.reading then noted_now i m to m.notes.now
-    else Ask (Value g.now) (λ v. assign i (note_now m g.now) to v)
+now_tree g i m to = now_by g.reading g i m to
 
 -- a free slot: the first pass takes the lowest one and notes it, the second tests that the noted one may answer
 
-abbrev pub note_slot : Machine → ℕ → Machine
-note_slot m slot = record m { notes = record m.notes { slot = Some (sealed slot) } }
-
 abbrev pub lowest_slot : ℕ → Machine → ℕ → ℕ → Tree After
-lowest_slot i m to slot = Ask (Value slot) (λ v. assign i (note_slot m slot) to v)
+lowest_slot i m to slot = Ask (Value slot) (λ v. assign i (note_slot m (sealed slot)) to v)
+
+abbrev pub fit_if : Bool → ℕ → Machine → ℕ → ℕ → Tree After
+fit_if fit i m to slot = if fit then Ask (Value slot) (λ v. assign i m to v) else ends m (Bad Notes)
 
 abbrev pub noted_slot_value : Setting → ℕ → Machine → ℕ → ℕ → Option ℕ → Tree After
 noted_slot_value g i m to moment None = ends m (Bad Code)
-noted_slot_value g i m to moment (Some slot) =
-    Ask (Test (is_admissible g m.words moment slot)) (λ fit.
-    if fit then Ask (Value slot) (λ v. assign i m to v) else ends m (Bad Notes))
+noted_slot_value g i m to moment (Some slot) = Ask (Test (is_admissible g m.words moment slot)) (λ fit. fit_if fit i m to slot)
 
 abbrev pub noted_slot : Setting → ℕ → Machine → ℕ → ℕ → Option Coded → Tree After
 noted_slot g i m to moment None = ends m (Bad Notes)
 noted_slot g i m to moment (Some note) = noted_slot_value g i m to moment (read_of note)
 
-abbrev pub alloc_from : Setting → ℕ → Machine → ℕ → ℕ → Tree After
-alloc_from g i m to moment =
-    if g.reading then noted_slot g i m to moment m.notes.slot else lowest_slot i m to (lowest_free g m.words moment)
+abbrev pub alloc_by : Bool → Setting → ℕ → Machine → ℕ → ℕ → Tree After
+alloc_by reading g i m to moment =
+    if reading then noted_slot g i m to moment m.notes.slot else lowest_slot i m to (lowest_free g m.words moment)
 
 abbrev pub alloc_tree : Setting → ℕ → Machine → ℕ → ℕ → Tree After
-alloc_tree g i m to moment = Ask (Value (register m moment)) (λ t. alloc_from g i m to t)
+alloc_tree g i m to moment = Ask (Value (register m moment)) (λ t. alloc_by g.reading g i m to t)
 
 -- the input: its code is tested, and behind that test its call fills the input words; then it is tested that there is such
 -- a call, and that its bucket is lent; last the first input word is stored through the core
@@ -140,32 +142,41 @@ is_lent (Some bucket) (Some call) = bucket == call.bucket
 -- the input words stand there; the first of them, if there is one, is stored anew
 abbrev pub parse_first : ℕ → Machine → List ℕ → Tree After
 parse_first i m [] = ends m (Next (i + 1))
-parse_first i m (word ∷ words) = Ask (Written word) (λ w. ends (record m { input = refilled m.input (w ∷ words) }) (Next (i + 1)))
+parse_first i m (word ∷ words) = Ask (Written word) (λ w. ends (with_input m (w ∷ words)) (Next (i + 1)))
+
+abbrev pub bucket_if : Bool → ℕ → Machine → Tree After
+bucket_if lent i m = if lent then parse_first i m m.input.items else ends m (Bad Bucket)
 
 abbrev pub parse_bucket : Setting → ℕ → Machine → Tree After
-parse_bucket g i m = Ask (Test (is_lent g.lent g.parsed)) (λ yes. if yes then parse_first i m m.input.items else ends m (Bad Bucket))
+parse_bucket g i m = Ask (Test (is_lent g.lent g.parsed)) (λ lent. bucket_if lent i m)
+
+abbrev pub call_if : Bool → Setting → ℕ → Machine → Tree After
+call_if there g i m = if there then parse_bucket g i m else ends m (Bad Code)
 
 abbrev pub parse_call : Setting → ℕ → Machine → Tree After
-parse_call g i m = Ask (Test (is_some g.parsed)) (λ yes. if yes then parse_bucket g i m else ends m (Bad Code))
+parse_call g i m = Ask (Test (is_some g.parsed)) (λ there. call_if there g i m)
+
+abbrev pub intact_if : Bool → Setting → ℕ → Machine → Tree After
+intact_if intact g i m = if intact then parse_call g i (with_input m (parsed_words g.parsed)) else ends m (Bad Code)
 
 abbrev pub parse_tree : Setting → ℕ → Machine → Tree After
-parse_tree g i m =
-    Ask (Test g.intact) (λ yes.
-    if yes then parse_call g i (record m { input = refilled m.input (parsed_words g.parsed) }) else ends m (Bad Code))
+parse_tree g i m = Ask (Test g.intact) (λ intact. intact_if intact g i m)
 
 -- the output bytes: each output word is read, and the bytes are made of what was read
 
 abbrev pub store_bytes : ℕ → Machine → List ℕ → Tree After
-store_bytes i m [] = ends (record m { bytes = emptied m.bytes }) (Next (i + 1))
-store_bytes i m (byte ∷ bytes) =
-    Ask (Written byte) (λ w. ends (record m { bytes = refilled m.bytes (w % 2 ^ 8 ∷ bytes) }) (Next (i + 1)))
+store_bytes i m [] = ends (with_bytes m []) (Next (i + 1))
+store_bytes i m (byte ∷ bytes) = Ask (Written byte) (λ w. ends (with_bytes m (w % 2 ^ 8 ∷ bytes)) (Next (i + 1)))
+
+abbrev pub render_if : Bool → Setting → ℕ → Machine → List ℕ → Tree After
+render_if fits g i m bytes =
+    if fits
+    then store_bytes i (with_code m (message_code g.answer bytes)) bytes
+    else ends (with_bytes m []) (Bad OutFull)
 
 abbrev pub render_bytes : Setting → ℕ → Machine → Option (List ℕ) → Tree After
-render_bytes g i m None = ends (record m { bytes = emptied m.bytes }) (Bad Output)
-render_bytes g i m (Some bytes) =
-    if nat_le (length bytes) m.bytes.room
-    then store_bytes i (record m { code = Some (message_code g.answer bytes) }) bytes
-    else ends (record m { bytes = emptied m.bytes }) (Bad OutFull)
+render_bytes g i m None = ends (with_bytes m []) (Bad Output)
+render_bytes g i m (Some bytes) = render_if (nat_le (length bytes) m.bytes.room) g i m bytes
 
 -- read are the words that were read so far
 abbrev pub render_words : Setting → ℕ → Machine → List ℕ → List ℕ → Tree After
@@ -195,9 +206,11 @@ statement_tree g i m Render = render_tree g i m
 statement_tree g i m Halt = ends m Halted
 
 -- each statement that is made is counted, and the one that would exceed the budget is not made
+abbrev pub count_if : Bool → Setting → ℕ → Machine → Stmt → Tree After
+count_if enough g i m s = if enough then statement_tree g i (one_made m) s else ends m (Bad Budget)
+
 abbrev pub counted_tree : Setting → ℕ → Machine → Stmt → Tree After
-counted_tree g i m s =
-    if nat_lt m.made g.budget then statement_tree g i (record m { made = m.made + 1 }) s else ends m (Bad Budget)
+counted_tree g i m s = count_if (nat_lt m.made g.budget) g i m s
 
 abbrev pub found_tree : Setting → ℕ → Machine → Option Stmt → Tree After
 found_tree g i m None = ends m (Bad (Table i))

@@ -4,7 +4,7 @@ use Rattle.sei_log.specs.declared.log.Change.{Change}
 use Rattle.sei_stmt.specs.declared.stmt.Stmt.{Stmt}
 use Rattle.sei_stmt.specs.declared.stmt.Stmt.TheVariants.{Const, Move, Add, Sub, Input, Load, Store, Emit, Jump, JumpEq, JumpLt, Now, Alloc, Parse, Render, Halt}
 use Rattle.sei_stmt.specs.Runs.{RunState}
-use Rattle.sei_stmt.specs.Programs.{Prog, Block, Seq, IfEq, IfLt, WhileLt}
+use Rattle.sei_stmt.specs.Programs.{Prog, Block, Seq, IfEq, IfLt, RepeatLt}
 
 -- the registers that may be written, and whether words may be stored, output words made, and the stage
 -- changed, which Parse, Now, Alloc and Render do
@@ -45,7 +45,7 @@ within w (Block xs) = all_within w xs
 within w (Seq p q) = within w p && within w q
 within w (IfEq l r p q) = within w p && within w q
 within w (IfLt l r p q) = within w p && within w q
-within w (WhileLt l r b) = within w b
+within w (RepeatLt l r b) = within w b
 
 -- the addresses of the changes rise strictly, from lo on and below n
 abbrev pub Rises : ℕ → List Change → ℕ → Type 0

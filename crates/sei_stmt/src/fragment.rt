@@ -1,8 +1,11 @@
 //! Fragments: parts of a table.
 ghost use Rattle.std.specs.Prelude.{◌≡◌, ◌++◌, IfOk, OnOk, OnErr, vec_len};
+ghost use Rattle.sei_stmt.specs.Programs.{flatten};
+ghost use Rattle.sei_stmt.specs.Written.{prog_of};
 
-use super::Stmt;
+use super::{Program, Stmt};
 use sei_code::Memory;
+use std::alloc::Global;
 use std::marker::Model;
 
 /// A part of a table. Its value is the list of its statements. Its jumps keep their meaning wherever
@@ -20,6 +23,16 @@ impl Model for Fragment {
     ghost Value = { List Stmt };
 
     ghost view = { λ f. f.stmts.items };
+}
+
+impl Fragment {
+    /// The statements of the program. The error is that memory ran out.
+    pub fn of(alloc: Global, program: &Program) -> Result<Fragment, Memory>
+        ensures { IfOk result (λ f. f ≡ flatten (prog_of program.now)) }
+    {
+        let stmts = program.flatten(alloc)?;
+        Ok(Fragment { stmts })
+    }
 }
 
 /// Puts the fragment's statements behind those that are there, and answers the index of the first

@@ -2,6 +2,7 @@
 ghost use Rattle.std.specs.Prelude.{◌≡◌, ℕ, ◌≤◌, List, Option, length};
 ghost use Rattle.sei_stmt.specs.declared.stmt.Stmt.{Stmt};
 ghost use Rattle.sei_stmt.specs.Handling.{Parsed, parsed_words, parsed_bucket, refilled, rendered_as, rendered_bytes};
+ghost use Rattle.sei_stmt.specs.Passes.{Space};
 
 use crate::table::Table;
 use sei_code::{Buffer, Rendered, WordList};
@@ -52,8 +53,16 @@ pub trait Modeled: Handler {
     /// The states of the model.
     ghost State: { Type 0 };
 
+    /// On which words a run starts for which states. A handler may ask more of them than of the words
+    /// that its runs leave.
+    ghost begins: { Self → List ℕ → State → Type 0 };
+
     /// Which words stand for which states.
     ghost stands: { Self → List ℕ → State → Type 0 };
+
+    /// What each pass of a call of an input has, by the call's number: its rooms, its budget, and the
+    /// free slots.
+    ghost space: { Self → List ℕ → ℕ → Space };
 
     /// The answer to a call of an input, by its number, in a state at a time: the state that it leaves,
     /// and its reply.

@@ -127,11 +127,11 @@ module _ (g : Given) (now : ℕ) (w : Walk) (words : List ℕ) where
       (λ has. if_always (Keeps w) has (closes Guard w words Nothing (at Take 0)) (ends w words Refuses) (closes_here Guard Nothing (at Take 0)) (here words Refuses))
       (here words Refuses)
 
-  take_keeps : Always (Keeps w) (closing_then Take w words (take_wanted g.geometry words))
+  take_keeps : Always (Keeps w) (closing_then Take w words (take_wanted g.space.geometry words))
   take_keeps =
       let v : Walk = gated w (risen w.gate.done) in
-      closing_always (Keeps w) Take w words (take_wanted g.geometry words)
-      (if_always (Keeps w) (nat_lt v.wanted g.geometry.buckets) (ends (record v { want = WantTake v.wanted }) words (Leads (at First 0))) (ends v words (Aborts (Range v.wanted)))
+      closing_always (Keeps w) Take w words (take_wanted g.space.geometry words)
+      (if_always (Keeps w) (nat_lt v.wanted g.space.geometry.buckets) (ends (record v { want = WantTake v.wanted }) words (Leads (at First 0))) (ends v words (Aborts (Range v.wanted)))
       (keeps_at w w itself (record v { want = WantTake v.wanted }) words (Leads (at First 0)) refl refl refl (inr refl))
       (keeps_at w w itself v words (Aborts (Range v.wanted)) refl refl refl (inr refl)))
       (keeps_at w w itself (gated w w.gate.done) words (Aborts (Gate w.gate.done)) refl refl refl (inl refl))
@@ -152,7 +152,7 @@ module _ (g : Given) (now : ℕ) (w : Walk) (words : List ℕ) where
   keeps Guard index n = guard_keeps
   keeps Take zero n = absurd n
   keeps Take (suc index) n =
-      subst (λ (b : Bool). Always (Keeps w) (if b then store_wanted g w words else closing_then Take w words (take_wanted g.geometry words))) (sym (not_zero index)) take_keeps
+      subst (λ (b : Bool). Always (Keeps w) (if b then store_wanted g w words else closing_then Take w words (take_wanted g.space.geometry words))) (sym (not_zero index)) take_keeps
   keeps First index n = always_bound (Keeps w) (step_tree (setting_in g Making w.sealed now) index (first_machine w words)) (first_to w)
       (λ x. from_first w (with_first w x.machine) (record { sealed = refl; place = refl; wanted = refl; gate = refl }) x.machine.words x.outcome)
   keeps Restore index n =
@@ -227,4 +227,4 @@ take_closes_only g w words =
 
 pub take_only : (g : Given) (index : ℕ) (w : Walk) (words : List ℕ) → Always (OnlyCloses w words) (take_tree g (suc index) w words)
 take_only g index w words =
-    subst (λ (b : Bool). Always (OnlyCloses w words) (if b then store_wanted g w words else closing_then Take w words (take_wanted g.geometry words))) (sym (not_zero index)) (take_closes_only g.geometry w words)
+    subst (λ (b : Bool). Always (OnlyCloses w words) (if b then store_wanted g w words else closing_then Take w words (take_wanted g.space.geometry words))) (sym (not_zero index)) (take_closes_only g.space.geometry w words)

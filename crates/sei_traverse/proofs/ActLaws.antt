@@ -1,6 +1,6 @@
 -- The act at a place, from the act of its phase.
 use Rattle.std.proofs.Common.{◌≡◌, ℕ, List, Option, sym, subst}
-use Rattle.mc_model.specs.declared.geometry.Geometry.{Geometry}
+use Rattle.sei_pass.specs.declared.spaces.PassSpace.{PassSpace}
 use Rattle.sei_fault.specs.declared.place.Phase.{Phase}
 use Rattle.sei_fault.specs.Question.{Question, Answer}
 use Rattle.sei_fault.specs.Tree.{Runs}
@@ -17,13 +17,13 @@ module _ {S : Type 0} (gives : S → (q : Question) → Answer q → S → Type 
       let a = some_answer told in
       record { now = a.0; answer = a.1; runs = subst (λ (p : Phase). Runs gives (act_in g a.0 p w.place.index w words) s t x) (sym e) (r a.0) }
 
-  -- one of a pass, whose geometry is this one
-  pub timed_act : (h : Service) (input : List ℕ) (lent : Option ℕ) (g k : Geometry) → k ≡ g → w.place.phase ≡ phase →
+  -- one of a pass, whose space is this one
+  pub timed_act : (h : Service) (input : List ℕ) (lent : Option ℕ) (g k : PassSpace) → k ≡ g → w.place.phase ≡ phase →
       Timed gives told (λ now. act_in (given_of h input k lent) now phase w.place.index w words) s t x →
       Timed gives told (λ now. act_tree (given_of h input g lent) now w words) s t x
   timed_act h input lent g k same e r = record {
     now = r.now;
     answer = r.answer;
     runs = subst (λ (p : Phase). Runs gives (act_in (given_of h input g lent) r.now p w.place.index w words) s t x) (sym e)
-        (subst (λ (y : Geometry). Runs gives (act_in (given_of h input y lent) r.now phase w.place.index w words) s t x) same r.runs);
+        (subst (λ (y : PassSpace). Runs gives (act_in (given_of h input y lent) r.now phase w.place.index w words) s t x) same r.runs);
   }

@@ -11,4 +11,4 @@ use Rattle.sei_traverse.specs.Facts.{closing_want}
 pub data ClosesNext (e : Errand) (before : ℕ) (w : Walk) (ended : Type 0) : Type 0 where
   Stays : w.gate.done ≡ before → w.want ≡ Nothing → ClosesNext e before w ended
   Closes : (phase : Phase) → before ≡ phase_number phase → w.gate.done ≡ before + 1 → w.want ≡ closing_want w phase → ClosesNext e before w ended
-  Lacks : before ≡ 1 → w.gate.done ≡ 2 → w.want ≡ Nothing → e.geometry.buckets ≤ w.wanted → ended → ClosesNext e before w ended
+  Lacks : before ≡ 1 → w.gate.done ≡ 2 → w.want ≡ Nothing → e.space.geometry.buckets ≤ w.wanted → ended → ClosesNext e before w ended

@@ -39,7 +39,7 @@ use Rattle.sei_traverse.proofs.TimeLaws.{comes_start}
 
 -- what a step is given where this bucket is lent
 abbrev lending : Errand → Option ℕ → Given
-lending e bucket = given_of e.service e.input e.geometry bucket
+lending e bucket = given_of e.service e.input e.space bucket
 
 abbrev behind : Walk → Want → Place → Walk
 behind w want to = record w { gate = record { done = risen w.gate.done }; want = want; place = to }
@@ -94,7 +94,7 @@ guard_passes g w words intact has gate =
 
 -- Guard lets a call of the sealed input pass
 pub guard_on : (e : Errand) (ie : IsErrand e) (now : ℕ) (bucket : Option ℕ) (w : Walk) (words : List ℕ) (steps asked : ℕ) → InGuard e w steps asked →
-    GoesOn e (given_of e.service e.input e.geometry bucket) now Guard w words (λ left. None) steps asked
+    GoesOn e (given_of e.service e.input e.space bucket) now Guard w words (λ left. None) steps asked
 guard_on e ie now bucket w words steps asked i = record {
   act = Plain;
   site = plain_first w.place.index i.index;
@@ -135,13 +135,13 @@ refused g w words index h = (plain_first w.place.index index, refuses g w words 
 take_takes : (g : Given) (w : Walk) (words : List ℕ) (index : ℕ) → index ≡ 0 → honest (take_tree g index w words) ≡ acted (record w { wanted = bucket_of_call g w.sealed }) words (Leads (at Take 1))
 take_takes g w words index h = ap (λ (n : ℕ). honest (take_tree g n w words)) h
 
-take_wants : (g : Given) (w : Walk) (words : List ℕ) (index : ℕ) → index ≡ 1 → w.gate.done ≡ 1 → w.wanted < g.geometry.buckets →
+take_wants : (g : Given) (w : Walk) (words : List ℕ) (index : ℕ) → index ≡ 1 → w.gate.done ≡ 1 → w.wanted < g.space.geometry.buckets →
     honest (take_tree g index w words) ≡ acted (record (closed_walk w) { want = WantTake w.wanted }) words (Leads (at First 0))
 take_wants g w words index h gate small =
     ap (λ (n : ℕ). honest (take_tree g n w words)) h
-    ∙ closes_then Take w words (take_wanted g.geometry words) gate
+    ∙ closes_then Take w words (take_wanted g.space.geometry words) gate
     ∙ ap (λ (yes : Bool). honest (if yes then ends (record (closed_walk w) { want = WantTake w.wanted }) words (Leads (at First 0)) else ends (closed_walk w) words (Aborts (Range w.wanted))))
-    (below w.wanted g.geometry.buckets small)
+    (below w.wanted g.space.geometry.buckets small)
 
 module _ (e : Errand) (ie : IsErrand e) (now : ℕ) (bucket : Option ℕ) (w : Walk) (words : List ℕ) (steps asked : ℕ) (nothing : w.want ≡ Nothing) (i : InTake e w steps asked) where
   call_bucket : bucket_of_call (lending e bucket) w.sealed ≡ e.call.bucket
@@ -180,7 +180,7 @@ module _ (e : Errand) (ie : IsErrand e) (now : ℕ) (bucket : Option ℕ) (w : W
         left = words;
         to = at First 0;
         next = subst (λ (n : ℕ). NextIn Take n First) (sym h) refl;
-        acts = take_wants (lending e bucket) w words w.place.index h i.is.gate (subst (λ (n : ℕ). n < e.geometry.buckets) (sym is_call) ie.bucket);
+        acts = take_wants (lending e bucket) w words w.place.index h i.is.gate (subst (λ (n : ℕ). n < e.space.geometry.buckets) (sym is_call) ie.bucket);
         want = ap WantTake is_call ∙ sym (ap (take_want e) h);
         more = 0;
         asks = omega arith;
@@ -202,7 +202,7 @@ module _ (e : Errand) (ie : IsErrand e) (now : ℕ) (bucket : Option ℕ) (w : W
   by_index (suc (suc n)) h le = absurd (omega (arith, le))
 
   -- Take stores the bucket of the call, and then wants it
-  pub take_on : GoesOn e (given_of e.service e.input e.geometry bucket) now Take w words (λ left. None) steps asked
+  pub take_on : GoesOn e (given_of e.service e.input e.space bucket) now Take w words (λ left. None) steps asked
   take_on = by_index w.place.index refl i.index
 
 -- First
@@ -224,14 +224,14 @@ pub lends : (e : Errand) (w : Walk) (steps asked : ℕ) → TellsTime e.clock �
 lends e w steps asked fits i =
     let machine : first_machine w e.taken ≡ first_start e =
     ap (λ (p : PassState). machine_of p e.taken w.first_log w.notes) i.first.first
-    ∙ ap (λ (log : Kept Change). machine_of (new_pass e.geometry) e.taken log w.notes) i.first.first_log
-    ∙ ap (λ (notes : Notes). machine_of (new_pass e.geometry) e.taken (first_start e).log notes) i.first.notes in
+    ∙ ap (λ (log : Kept Change). machine_of (new_pass e.space) e.taken log w.notes) i.first.first_log
+    ∙ ap (λ (notes : Notes). machine_of (new_pass e.space) e.taken (first_start e).log notes) i.first.notes in
     let there : next_at (first_start e) 0 ≡ next_at (first_machine w e.taken) w.place.index =
     ap (λ (m : Machine). next_at m 0) (sym machine) ∙ ap (next_at (first_machine w e.taken)) (sym i.index) in
     let started = start_at e.clock (first_setting e) (first_start e) refl fits (comes_start (first_setting e) (first_start e) refl) in
     let moved = subst (λ (x : After). Started e.clock (first_setting e) (first_start e) x asked) there (subst (Started e.clock (first_setting e) (first_start e) (next_at (first_start e) 0)) (sym i.questions) started) in
     record {
-      geometry = ap (λ (p : PassState). p.geometry) i.first.first;
+      space = ap (λ (p : PassState). p.space) i.first.first;
       made = 0;
       comes = moved.comes;
       told = moved.told;
@@ -301,7 +301,7 @@ module _ (e : Errand) (now : ℕ) (w : Walk) (words : List ℕ) (steps asked : �
   }
 
   -- Send wants a reply that is not empty to be sent
-  pub send_on : (bucket : Option ℕ) → InSend e w None steps asked → GoesOn e (given_of e.service e.input e.geometry bucket) now Send w words (λ left. None) steps asked
+  pub send_on : (bucket : Option ℕ) → InSend e w None steps asked → GoesOn e (given_of e.service e.input e.space bucket) now Send w words (λ left. None) steps asked
   send_on bucket i =
       let want : Want = send_want w.second.bytes.items in
       record {
@@ -338,7 +338,7 @@ pub record Finishes (e : Errand) (g : Given) (now : ℕ) (phase : Phase) (w : Wa
 
 -- Done leads to the end
 pub done_on : (e : Errand) (now : ℕ) (bucket : Option ℕ) (w : Walk) (words : List ℕ) (steps asked : ℕ) → InDone e w steps asked →
-    Finishes e (given_of e.service e.input e.geometry bucket) now Done w words steps asked
+    Finishes e (given_of e.service e.input e.space bucket) now Done w words steps asked
 done_on e now bucket w words steps asked i = record {
   act = Plain;
   site = plain_first w.place.index i.index;

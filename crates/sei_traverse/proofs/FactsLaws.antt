@@ -22,7 +22,7 @@ use Rattle.sei_traverse.proofs.WayLaws.{way_begins}
 use Rattle.sei_traverse.proofs.EdgeActs.{lends}
 use Rattle.sei_traverse.proofs.StepEnds.{same_phase, clean_gate}
 
-pub facts_begin : (e : Errand) (c : Counts) → Facts e (begun_traversal e.geometry e.sealed) None c c
+pub facts_begin : (e : Errand) (c : Counts) → Facts e (begun_traversal e.space e.sealed) None c c
 facts_begin e c = record {
   later = omega arith;
   unstruck = λ u. record {
@@ -43,7 +43,7 @@ relent e t old new begin now p gate clean struck facts = record {
       let is : t.walk.place.phase ≡ p = here (clean_gate e t.walk old t.steps f.clean.asked t.walk.place.phase f.clean.clean.in_phase) in
       record {
         clean = record {
-          geometry = f.clean.geometry;
+          space = f.clean.space;
           asked = f.clean.asked;
           clean = record {
             in_phase = subst (λ (q : Phase). CleanIn e t.walk new t.steps f.clean.asked q) (sym is)
@@ -55,7 +55,7 @@ relent e t old new begin now p gate clean struck facts = record {
       };
   struck = λ s.
       let f = facts.struck s in
-      record { geometry = f.geometry; sealed = f.sealed; asked = f.asked; case = by_case f.asked f.case; counted = f.counted };
+      record { space = f.space; sealed = f.sealed; asked = f.asked; case = by_case f.asked f.case; counted = f.counted };
 }
   where
     here : t.walk.gate.done ≡ phase_number t.walk.place.phase → t.walk.place.phase ≡ p
@@ -75,7 +75,7 @@ pub facts_lent : (e : Errand) (t : TraversalState) (begin now : Counts) → IsTr
 facts_lent e t begin now trusted gate facts =
     relent e t None (Some e.taken) begin now First gate
     (λ steps asked i. record { is = i.is; second = i.second; at = lends e t.walk steps asked trusted.clock i.at })
-    (λ asked i. record { geometry = i.geometry; second = i.second; stands = undoes_none e t.walk asked i.stands }) facts
+    (λ asked i. record { space = i.space; second = i.second; stands = undoes_none e t.walk asked i.stands }) facts
 
 pub facts_given : (e : Errand) (t : TraversalState) (words : List ℕ) (begin now : Counts) → t.walk.gate.done ≡ 9 → Facts e t (Some words) begin now → Facts e t None begin now
 facts_given e t words begin now gate facts =

@@ -1,19 +1,18 @@
 -- An honest second pass on the words that were taken, that has halted, answers as an honest run by its noted time does.
 use Rattle.std.proofs.Common.{◌≡◌, ◌⊎◌, inl, inr, ℕ, ◌+◌, ◌≤◌, Bool, true, false, List, Option, Some, None, ap, sym, ◌∙◌, arith, refl, subst}
-use Rattle.std.specs.Prelude.{if◌then◌else◌, ◌==◌, is_some, nat_lt, slice_get}
+use Rattle.std.specs.Prelude.{◌==◌, is_some, nat_lt, slice_get}
 use Rattle.std.proofs.lemmas.Bool.{eqb-true}
 use Rattle.sei_fault.specs.declared.cause.AbortCause.{AbortCause}
-use Rattle.sei_fault.specs.declared.cause.AbortCause.TheVariants.{Code, Bucket, Budget}
 use Rattle.sei_fault.specs.Tree.{honest}
 use Rattle.sei_stmt.specs.declared.stmt.Stmt.{Stmt}
 use Rattle.sei_stmt.specs.declared.stmt.Stmt.TheVariants.{Parse}
 use Rattle.sei_stmt.specs.Asked.{first_asked}
-use Rattle.sei_stmt.specs.Handling.{Parsed, parsed_words, refilled}
+use Rattle.sei_stmt.specs.Handling.{Parsed, parsed_words}
 use Rattle.sei_stmt.specs.Honest.{after, HonestRun}
-use Rattle.sei_stmt.specs.Machine.{Machine, Setting, Outcome, After, ends}
+use Rattle.sei_stmt.specs.Machine.{Machine, Setting, Outcome, After, with_input, one_made}
 use Rattle.sei_stmt.specs.Machine.Outcome.{Halted, Bad}
 use Rattle.sei_stmt.specs.Passes.{notes_of}
-use Rattle.sei_stmt.specs.Statements.{is_lent, parse_first, parse_bucket, parse_call, parse_tree, found_tree}
+use Rattle.sei_stmt.specs.Statements.{is_lent, bucket_if, call_if, intact_if, parse_tree, count_if, found_tree}
 use Rattle.sei_stmt.proofs.HonestLaws.{halts_or_aborts}
 use Rattle.sei_traverse.specs.declared.walk.Walk.{Walk}
 use Rattle.sei_traverse.specs.Comes.{renoted}
@@ -38,31 +37,31 @@ Stops x = (cause : AbortCause) × (x.outcome ≡ Bad cause)
 
 module _ (g : Setting) (i : ℕ) where
   parse_lent : (m : Machine) → g.intact ≡ true → is_some g.parsed ≡ true → (b : Bool) → is_lent g.lent g.parsed ≡ b →
-      Passed g ⊎ Stops (honest (if b then parse_first i m m.input.items else ends m (Bad Bucket)))
+      Passed g ⊎ Stops (honest (bucket_if b i m))
   parse_lent m intact parsed true h = inl (record { intact = intact; parsed = parsed; lent = h })
   parse_lent m intact parsed false h = inr (_, refl)
 
   parse_parsed : (m : Machine) → g.intact ≡ true → (b : Bool) → is_some g.parsed ≡ b →
-      Passed g ⊎ Stops (honest (if b then parse_bucket g i m else ends m (Bad Code)))
+      Passed g ⊎ Stops (honest (call_if b g i m))
   parse_parsed m intact true h = parse_lent m intact h (is_lent g.lent g.parsed) refl
   parse_parsed m intact false h = inr (_, refl)
 
-  parse_intact : (m c : Machine) → (b : Bool) → g.intact ≡ b → Passed g ⊎ Stops (honest (if b then parse_call g i c else ends m (Bad Code)))
-  parse_intact m c true h = parse_parsed c h (is_some g.parsed) refl
-  parse_intact m c false h = inr (_, refl)
+  parse_intact : (m : Machine) (b : Bool) → g.intact ≡ b → Passed g ⊎ Stops (honest (intact_if b g i m))
+  parse_intact m true h = parse_parsed (with_input m (parsed_words g.parsed)) h (is_some g.parsed) refl
+  parse_intact m false h = inr (_, refl)
 
   -- Parse tests all three
   parse_passed : (m : Machine) → Passed g ⊎ Stops (honest (parse_tree g i m))
-  parse_passed m = parse_intact m (record m { input = refilled m.input (parsed_words g.parsed) }) g.intact refl
+  parse_passed m = parse_intact m g.intact refl
 
-  parse_counted : (m c : Machine) (enough : Bool) → Passed g ⊎ Stops (honest (if enough then parse_tree g i c else ends m (Bad Budget)))
-  parse_counted m c true = parse_passed c
-  parse_counted m c false = inr (_, refl)
+  parse_counted : (m : Machine) (enough : Bool) → Passed g ⊎ Stops (honest (count_if enough g i m Parse))
+  parse_counted m true = parse_passed (one_made m)
+  parse_counted m false = inr (_, refl)
 
   parse_found : (m : Machine) (o : Option Stmt) → o ≡ Some Parse → Passed g ⊎ Stops (honest (found_tree g i m o))
   parse_found m o is =
       subst (λ (o : Option Stmt). Passed g ⊎ Stops (honest (found_tree g i m o))) (sym is)
-      (parse_counted m (record m { made = m.made + 1 }) (nat_lt m.made g.budget))
+      (parse_counted m (nat_lt m.made g.budget))
 
 -- an honest run of such a table that halts has passed the three tests
 pub halted_passed : (g : Setting) (start end : Machine) (n : ℕ) → slice_get g.statements 0 ≡ Some Parse → HonestRun g start end n → Passed g

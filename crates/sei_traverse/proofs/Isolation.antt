@@ -1,6 +1,6 @@
 -- One strike is isolated: what is known of a traversal is known behind each step.
 use Rattle.std.proofs.Common.{◌≡◌, ◌⊎◌, inl, inr, ℕ, suc, ◌+◌, ◌*◌, ◌-◌, ◌^◌, ◌<◌, ◌≤◌, List, Option, sym, ◌∙◌, subst, refl, arith}
-use Rattle.mc_model.specs.declared.geometry.Geometry.{Geometry}
+use Rattle.sei_pass.specs.declared.spaces.PassSpace.{PassSpace}
 use Rattle.sei_fault.specs.Counts.{Counts, Answered}
 use Rattle.sei_fault.specs.declared.place.Phase.{Phase}
 use Rattle.sei_fault.specs.declared.place.Phase.TheVariants.{Guard, Take, First, Restore, Second, Compare, Verify, Enter, Give, Send, Done}
@@ -79,7 +79,7 @@ data GateIs (w : Walk) (x : Turn) : Type 0 where
   IsLost : (IsRight w → ⊥) → StaysLost w.gate.done x → GateIs w x
 
 module _ (e : Errand) (trusted : IsTrusted e) (begin c d : Counts) (old new : TraversalState) (loan left : Option BucketWords) (asked more : ℕ)
-    (place : place_of left ≡ place_of loan) (geometry : new.geometry ≡ e.geometry) (sealed : new.walk.sealed ≡ e.sealed) (steps : new.steps ≤ suc old.steps)
+    (place : place_of left ≡ place_of loan) (space : new.space ≡ e.space) (sealed : new.walk.sealed ≡ e.sealed) (steps : new.steps ≤ suc old.steps)
     (grown : d.asked < 2 ^ 128 - 1 → c.asked ≤ d.asked) (counted : c.asked < 2 ^ 128 - 1 → begin.asked + asked ≤ c.asked) (risen : d.asked < 2 ^ 128 - 1 → d.asked ≡ c.asked + more)
     (lends : LendsWanted old.walk loan) (kept : IsNoStore old.walk.place.phase old.walk.place.index → new.walk.wanted ≡ old.walk.wanted)
     (still : 7 ≤ old.walk.gate.done → IsRight old.walk → IsLikeWalk old.walk new.walk × (lent_words left ≡ lent_words loan)) where
@@ -134,7 +134,7 @@ module _ (e : Errand) (trusted : IsTrusted e) (begin c d : Counts) (old new : Tr
     later = omega (arith, fell);
     unstruck = λ same. absurd (omega (arith, fell, same));
     struck = λ h. record {
-      geometry = geometry;
+      space = space;
       sealed = sealed;
       asked = number;
       case = subst (λ (l : Option (List ℕ)). StruckCase e new.walk l number) lent_is stands;
@@ -150,7 +150,7 @@ module _ (e : Errand) (trusted : IsTrusted e) (begin c d : Counts) (old new : Tr
     later = omega (arith, none);
     unstruck = λ same. record {
       clean = record {
-        geometry = geometry;
+        space = space;
         asked = number;
         clean = record {
           in_phase = settles e new.walk new.walk.want (lent_words left) new.steps (suc old.steps) number new.walk.place.phase steps
@@ -191,7 +191,7 @@ module _ (e : Errand) (trusted : IsTrusted e) (begin c d : Counts) (old new : Tr
 module _ (e : Errand) (trusted : IsTrusted e) (laws : (phase : Phase) → (phase ≡ Guard → ⊥) → PhaseLaws e phase) (guard_struck : StruckLaw e Guard) (lost : LostLaw) (both : BothLaw e) (answered : AnsweredLaw e)
     (begin c d : Counts) (old new : TraversalState) (loan left : Option BucketWords) (state : State) (now later : ℕ) (small : now < 2 ^ 64) (told : Follows e.clock now) (small_later : later < 2 ^ 64) (told_later : Follows e.clock later)
     (run : Runs any_core (turn_tree (given_with e loan) now later old.walk (words_of loan)) c d (turn new.walk (words_of left) state))
-    (place : place_of left ≡ place_of loan) (geometry : new.geometry ≡ old.geometry) (steps : new.steps ≡ one_more old.steps) (sealed : new.walk.sealed ≡ old.walk.sealed)
+    (place : place_of left ≡ place_of loan) (space : new.space ≡ old.space) (steps : new.steps ≡ one_more old.steps) (sealed : new.walk.sealed ≡ old.walk.sealed)
     (lends : LendsWanted old.walk loan) (facts : Facts e old (lent_words loan) begin c) (few : d.struck ≤ begin.struck + 1) where
   abbrev v : Walk
   v = unwanting old.walk
@@ -243,14 +243,14 @@ module _ (e : Errand) (trusted : IsTrusted e) (laws : (phase : Phase) → (phase
         let well = stays_clean e trusted laws guard_struck lost both answered now later small told small_later told_later loan v refl old.steps asked clean knows (lends gate) in
         let there = subst (λ (y : Turn). EndsWell e (CleanStands e (suc old.steps)) (left_of loan) (phase_number old.walk.place.phase) (asked + questions tree) y) (sym is) well in
         let ends = subst (λ (n : ℕ). EndsWell e (CleanStands e (suc old.steps)) (left_of loan) n (asked + questions tree) x) (sym gate) there in
-        isolates_clean e trusted begin c d old new loan left asked (questions tree) place (geometry ∙ unstruck.clean.geometry) seal steps_at_most grown unstruck.clean.counted risen lends kept still state none ends (IsRightly gate)
+        isolates_clean e trusted begin c d old new loan left asked (questions tree) place (space ∙ unstruck.clean.space) seal steps_at_most grown unstruck.clean.counted risen lends kept still state none ends (IsRightly gate)
         (halves e trusted old.walk new.walk (lent_words loan) (left_of loan (words_of left)) old.steps asked ends.wanting (IsAborted state) gate
         (λ seven. let s = still seven gate in (s.0, still_lent loan left (words_of left) place refl ∙ s.1)) unstruck.clean.clean.in_phase unstruck.knows ends.once ends.wanted)
 
     now_struck : d.struck ≡ begin.struck + 1 → (n : ℕ) → StruckRun tree x n → (d.asked < 2 ^ 128 - 1 → d.asked ≡ c.asked + n) → IsIsolated
     now_struck fell n strikes risen =
         let well = strikes_well e trusted laws guard_struck lost both answered now later small told small_later told_later loan v refl old.steps asked clean knows (lends gate) (site_of e.service v) x n strikes in
-        isolates_struck e trusted begin c d old new loan left asked n place (geometry ∙ unstruck.clean.geometry) seal steps_at_most grown unstruck.clean.counted risen lends kept still state fell
+        isolates_struck e trusted begin c d old new loan left asked n place (space ∙ unstruck.clean.space) seal steps_at_most grown unstruck.clean.counted risen lends kept still state fell
         (subst (λ (m : ℕ). EndsWell e (StruckStands e) (left_of loan) m (asked + n) x) (sym gate) well) (IsRightly gate)
 
   -- it was struck before
@@ -258,7 +258,7 @@ module _ (e : Errand) (trusted : IsTrusted e) (laws : (phase : Phase) → (phase
   was_struck struck fell is risen =
       let case = settles_case e old.walk (lent_words loan) struck.asked struck.case in
       let well = stays_well e laws lost now later small told loan v refl struck.asked struck.sealed case lends (site_of e.service v) in
-      isolates_struck e trusted begin c d old new loan left struck.asked (questions tree) place (geometry ∙ struck.geometry) (sealed ∙ struck.sealed) steps_at_most grown struck.counted risen lends kept still state fell
+      isolates_struck e trusted begin c d old new loan left struck.asked (questions tree) place (space ∙ struck.space) (sealed ∙ struck.sealed) steps_at_most grown struck.counted risen lends kept still state fell
       (subst (λ (y : Turn). EndsWell e (StruckStands e) (left_of loan) old.walk.gate.done (struck.asked + questions tree) y) (sym is) well) (by_gate case)
     where
       by_gate : StruckCase e v (lent_words loan) struck.asked → GateIs old.walk x
@@ -280,48 +280,48 @@ module _ (e : Errand) (trusted : IsTrusted e) (laws : (phase : Phase) → (phase
   pub isolates : Isolates e old new loan left begin d new.walk.want state
   isolates = by_strikes (count tree c d x run) struck_or
 
--- what is known of a traversal that at most one strike struck, tells its geometry
-facts_geometry : (e : Errand) (t : TraversalState) (lent : Option (List ℕ)) (begin now : Counts) → Facts e t lent begin now → now.struck ≤ begin.struck + 1 → t.geometry ≡ e.geometry
-facts_geometry e t lent begin now facts few = by_strikes (struck_by begin.struck now.struck facts.later few)
+-- what is known of a traversal that at most one strike struck, tells its space
+facts_space : (e : Errand) (t : TraversalState) (lent : Option (List ℕ)) (begin now : Counts) → Facts e t lent begin now → now.struck ≤ begin.struck + 1 → t.space ≡ e.space
+facts_space e t lent begin now facts few = by_strikes (struck_by begin.struck now.struck facts.later few)
   where
     struck_by : (b n : ℕ) → b ≤ n → n ≤ b + 1 → (n ≡ b) ⊎ (n ≡ b + 1)
     struck_by b n later few = grind (arith, later, few)
 
-    by_strikes : (now.struck ≡ begin.struck) ⊎ (now.struck ≡ begin.struck + 1) → t.geometry ≡ e.geometry
-    by_strikes (inl same) = (facts.unstruck same).clean.geometry
-    by_strikes (inr one) = (facts.struck one).geometry
+    by_strikes : (now.struck ≡ begin.struck) ⊎ (now.struck ≡ begin.struck + 1) → t.space ≡ e.space
+    by_strikes (inl same) = (facts.unstruck same).clean.space
+    by_strikes (inr one) = (facts.struck one).space
 
 -- for any core that keeps its law, and any clock that is the errand's, of a service and an input that are the errand's
 module _ (e : Errand) (trusted : IsTrusted e) (laws : (phase : Phase) → (phase ≡ Guard → ⊥) → PhaseLaws e phase) (guard_struck : StruckLaw e Guard) (lost : LostLaw) (both : BothLaw e) (answered : AnsweredLaw e) where
   pub isolates_told : {S : Type 0} (gives : S → (q : Question) → Answer q → S → Type 0) (counts : S → Counts) →
       ((s : S) (q : Question) (a : Answer q) (t : S) → gives s q a t → Answered (a ≡ honestly_to q) (counts s) (counts t)) →
       (told : Option ℕ) (begin : Counts) (old new : TraversalState) (loan left : Option BucketWords) (state : State) (s t : S) →
-      TimedTwice gives told (λ now later. turn_tree (given_of e.service e.input old.geometry (bucket_of loan)) now later old.walk (words_of loan)) s t (turn new.walk (words_of left) state) →
-      place_of left ≡ place_of loan → new.geometry ≡ old.geometry → new.steps ≡ one_more old.steps → new.walk.sealed ≡ old.walk.sealed →
+      TimedTwice gives told (λ now later. turn_tree (given_of e.service e.input old.space (bucket_of loan)) now later old.walk (words_of loan)) s t (turn new.walk (words_of left) state) →
+      place_of left ≡ place_of loan → new.space ≡ old.space → new.steps ≡ one_more old.steps → new.walk.sealed ≡ old.walk.sealed →
       TellsAs e.clock told → LendsWanted old.walk loan → Facts e old (lent_words loan) begin (counts s) → (counts t).struck ≤ begin.struck + 1 →
       Isolates e old new loan left begin (counts t) new.walk.want state
-  isolates_told gives counts law told begin old new loan left state s t turned place geometry steps sealed tells lends facts few =
-      let tree : Geometry → _ = λ g. turn_tree (given_of e.service e.input g (bucket_of loan)) turned.now turned.later old.walk (words_of loan) in
+  isolates_told gives counts law told begin old new loan left state s t turned place space steps sealed tells lends facts few =
+      let tree : PassSpace → _ = λ g. turn_tree (given_of e.service e.input g (bucket_of loan)) turned.now turned.later old.walk (words_of loan) in
       let x = turn new.walk (words_of left) state in
-      let run = counted_runs gives counts law (tree old.geometry) s t x turned.runs in
-      let fell = never_falls (tree old.geometry) (counts s) (counts t) x run in
-      let same = facts_geometry e old (lent_words loan) begin (counts s) facts (omega (arith, fell, few)) in
-      let run_on = subst (λ (g : Geometry). Runs any_core (tree g) (counts s) (counts t) x) same run in
+      let run = counted_runs gives counts law (tree old.space) s t x turned.runs in
+      let fell = never_falls (tree old.space) (counts s) (counts t) x run in
+      let same = facts_space e old (lent_words loan) begin (counts s) facts (omega (arith, fell, few)) in
+      let run_on = subst (λ (g : PassSpace). Runs any_core (tree g) (counts s) (counts t) x) same run in
       let answer = answer_is e.clock told turned.now trusted.clock tells turned.answer in
       let answer_later = answer_is e.clock told turned.later trusted.clock tells turned.answer_later in
-      isolates e trusted laws guard_struck lost both answered begin (counts s) (counts t) old new loan left state turned.now turned.later answer.0 answer.1 answer_later.0 answer_later.1 run_on place geometry steps sealed lends facts few
+      isolates e trusted laws guard_struck lost both answered begin (counts s) (counts t) old new loan left state turned.now turned.later answer.0 answer.1 answer_later.0 answer_later.1 run_on place space steps sealed lends facts few
 
   -- the same of a service and an input that are the errand's
   pub isolates_given : {S : Type 0} (gives : S → (q : Question) → Answer q → S → Type 0) (counts : S → Counts) →
       ((s : S) (q : Question) (a : Answer q) (t : S) → gives s q a t → Answered (a ≡ honestly_to q) (counts s) (counts t)) →
       (told : Option ℕ) (begin : Counts) (old new : TraversalState) (loan left : Option BucketWords) (state : State) (s t : S) (service : Service) (input : List ℕ) →
       e.service ≡ service → e.input ≡ input →
-      TimedTwice gives told (λ now later. turn_tree (given_of service input old.geometry (bucket_of loan)) now later old.walk (words_of loan)) s t (turn new.walk (words_of left) state) →
-      place_of left ≡ place_of loan → new.geometry ≡ old.geometry → new.steps ≡ one_more old.steps → new.walk.sealed ≡ old.walk.sealed →
+      TimedTwice gives told (λ now later. turn_tree (given_of service input old.space (bucket_of loan)) now later old.walk (words_of loan)) s t (turn new.walk (words_of left) state) →
+      place_of left ≡ place_of loan → new.space ≡ old.space → new.steps ≡ one_more old.steps → new.walk.sealed ≡ old.walk.sealed →
       TellsAs e.clock told → LendsWanted old.walk loan → Facts e old (lent_words loan) begin (counts s) → (counts t).struck ≤ begin.struck + 1 →
       Isolates e old new loan left begin (counts t) new.walk.want state
-  isolates_given gives counts law told begin old new loan left state s t service input f h turned place geometry steps sealed tells lends facts few =
+  isolates_given gives counts law told begin old new loan left state s t service input f h turned place space steps sealed tells lends facts few =
       isolates_told gives counts law told begin old new loan left state s t
-      (subst (λ (x : Service). TimedTwice gives told (λ now later. turn_tree (given_of x e.input old.geometry (bucket_of loan)) now later old.walk (words_of loan)) s t (turn new.walk (words_of left) state)) (sym f)
-      (subst (λ (x : List ℕ). TimedTwice gives told (λ now later. turn_tree (given_of service x old.geometry (bucket_of loan)) now later old.walk (words_of loan)) s t (turn new.walk (words_of left) state)) (sym h) turned))
-      place geometry steps sealed tells lends facts few
+      (subst (λ (x : Service). TimedTwice gives told (λ now later. turn_tree (given_of x e.input old.space (bucket_of loan)) now later old.walk (words_of loan)) s t (turn new.walk (words_of left) state)) (sym f)
+      (subst (λ (x : List ℕ). TimedTwice gives told (λ now later. turn_tree (given_of service x old.space (bucket_of loan)) now later old.walk (words_of loan)) s t (turn new.walk (words_of left) state)) (sym h) turned))
+      place space steps sealed tells lends facts few

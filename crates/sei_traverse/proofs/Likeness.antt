@@ -147,7 +147,7 @@ module _ (e : Errand) (w : Walk) (n : Want) (asked : ℕ) where
   pub struck_settles : (lent : Option (List ℕ)) (p : Phase) → StruckIn e w lent asked p → StruckIn e (record w { want = n }) lent asked p
   struck_settles lent Guard h = h
   struck_settles lent Take h = record { first = first_new h.first; second = second_new h.second }
-  struck_settles lent First h = record { geometry = h.geometry; second = second_new h.second; stands = first_stands lent h.stands }
+  struck_settles lent First h = record { space = h.space; second = second_new h.second; stands = first_stands lent h.stands }
   struck_settles lent Restore h = (second_new h.0, on_map lent (λ words. RestoreStruck e w words asked) (λ words. RestoreStruck e (wanting w n) words asked) restore_struck h.1)
   struck_settles lent Second h = on_map lent (λ words. SecondStruck e w words _ asked) (λ words. SecondStruck e (wanting w n) words _ asked) (λ words. second_struck words _) h
   struck_settles lent Compare h = on_map lent (λ words. CompareStruck e w words asked) (λ words. CompareStruck e (wanting w n) words asked) compare_struck h

@@ -72,9 +72,9 @@ module _ (g : Given) (now : ℕ) (w : Walk) (words : List ℕ) where
       (subst (λ (b : Bool). StaysLost Guard w (honest (if b then closes Guard w words Nothing (at Take 0) else ends w words Refuses))) (sym fit.1)
       (lost_closing Guard w w (itself w) words (λ v. ends (record v { want = Nothing }) words (Leads (at Take 0))) lost))
 
-  take_by : w.gate.done ≢ 1 → (b : Bool) → StaysLost Take w (honest (if b then store_wanted g w words else closing_then Take w words (take_wanted g.geometry words)))
+  take_by : w.gate.done ≢ 1 → (b : Bool) → StaysLost Take w (honest (if b then store_wanted g w words else closing_then Take w words (take_wanted g.space.geometry words)))
   take_by lost true = record { want = refl; gate = refl; sealed = refl; ends = refl }
-  take_by lost false = lost_closing Take w w (itself w) words (take_wanted g.geometry words) lost
+  take_by lost false = lost_closing Take w w (itself w) words (take_wanted g.space.geometry words) lost
 
   lost_take : w.gate.done ≢ 1 → StaysLost Take w (honest (act_in g now Take w.place.index w words))
   lost_take lost = take_by lost (w.place.index == 0)

@@ -7,6 +7,7 @@ use Rattle.std.proofs.lemmas.Bool.{cases_lt}
 use Rattle.std.proofs.lemmas.Option.{same_Some, slice_get-get_or}
 use Rattle.sei_code.specs.Codes.{message_code}
 use Rattle.sei_code.specs.Kept.{Kept, empty_kept}
+use Rattle.sei_log.specs.Changes.{change_of}
 use Rattle.sei_log.specs.declared.log.Change.{Change}
 use Rattle.sei_log.specs.declared.notes.Notes.{Notes}
 use Rattle.sei_gate.specs.Closing.{risen}
@@ -36,7 +37,6 @@ use Rattle.sei_traverse.specs.PassActs.{pass_of}
 use Rattle.sei_traverse.specs.Phases.{undone_to, restore_tree, compared, entries_to, outputs_to, compare_tree, word_to, copy_bytes, wire_to, verify_copy, verify_tree}
 use Rattle.sei_traverse.specs.Step.{plain_below}
 use Rattle.sei_traverse.specs.Unstruck.{IsOf, before_restore, before_compare, before_verify, first_questions, InRestore, InBoth, InCompare, InVerify}
-use Rattle.sei_traverse.specs.Walks.{log_room}
 use Rattle.sei_traverse.proofs.Closes.{closed, closes_in_turn}
 use Rattle.sei_traverse.proofs.Branches.{below, not_below, same, other}
 use Rattle.sei_traverse.proofs.GoesOn.{GoesOn}
@@ -78,7 +78,7 @@ whole_fits e time made end whole =
 
 -- the walk behind a first pass that ended with this machine
 abbrev in_restore : Errand → Walk → Machine → Walk
-in_restore e w end = parts w (pass_of (new_pass e.geometry) end) end.log end.notes (new_pass e.geometry) (empty_kept Change (log_room e.geometry))
+in_restore e w end = parts w (pass_of (new_pass e.space) end) end.log end.notes (new_pass e.space) (empty_kept Change e.space.log)
 
 module _ (w : Walk) (words : List ℕ) (index : ℕ) where
   abbrev undoing : List Change → Bool → Tree Acted
@@ -152,7 +152,7 @@ module _ (e : Errand) (now : ℕ) (w : Walk) (steps asked time made : ℕ) (end 
           end = end;
           whole = whole;
           first = record { first = refl; first_log = refl; notes = refl };
-          geometry = refl;
+          space = refl;
           words = e.taken;
           lent_are = ap (λ (l : List ℕ). Some l) back;
           n = 0;
@@ -182,7 +182,7 @@ restore_on e now w words steps asked want i =
 
 -- the walk behind both passes, which ended with this machine
 abbrev in_both : Errand → Walk → Machine → Walk
-in_both e w end = parts w (pass_of (new_pass e.geometry) end) end.log end.notes (pass_of (new_pass e.geometry) end) end.log
+in_both e w end = parts w (pass_of (new_pass e.space) end) end.log end.notes (pass_of (new_pass e.space) end) end.log
 
 is_both : (e : Errand) (w : Walk) (lent : Option (List ℕ)) (time made : ℕ) (end : Machine) (asked : ℕ) → InBoth e w lent time made end asked → in_both e w end ≡ w
 is_both e w lent time made end asked b = is_parts w _ _ _ _ _ b.first.first b.first.first_log b.first.notes b.second.second b.second.second_log
@@ -224,7 +224,7 @@ module _ (w : Walk) (words : List ℕ) (index : ℕ) where
       ∙ closes_in_turn Compare w words (at Verify 0) gate
 
 no_change : Change
-no_change = record { address = 0; was = 0; becomes = 0 }
+no_change = change_of 0 0 0
 
 -- each entry of a log is itself
 entry_same : (log : List Change) (i : ℕ) → i < length log → same_change (slice_get log i) (slice_get log i) ≡ true

@@ -1,161 +1,83 @@
 -- The second pass repeats the first by its notes.
-use Rattle.std.proofs.Common.{◌≡◌, ℕ, zero, suc, ◌+◌, ◌-◌, ◌<◌, ◌≤◌, Bool, true, false, List, [], ◌∷◌, ◌++◌, length, Option, Some, None, ap, sym, ◌∙◌, arith, refl, subst}
-use Rattle.std.specs.Prelude.{if◌then◌else◌, ◌==◌, nat_le, nat_lt, slice_get, is_some}
+use Rattle.std.proofs.Common.{◌≡◌, inl, inr, ℕ, zero, suc, ◌+◌, ◌-◌, ◌<◌, ◌≤◌, Bool, true, false, Option, Some, None, ap, sym, ◌∙◌, arith, refl, subst}
+use Rattle.std.specs.Prelude.{slice_get}
 use Rattle.std.proofs.lemmas.Bool.{eq-eqb, eqb-true, ltb-true, and_parts}
-use Rattle.sei_code.specs.Kept.{has_room, pushed, emptied}
-use Rattle.sei_code.specs.Codes.{message_code}
 use Rattle.sei_code.specs.Coded.{sealed, read_of, complement}
 use Rattle.sei_code.specs.declared.coded.Coded.{Coded}
 use Rattle.sei_log.specs.declared.notes.Notes.{Notes}
-use Rattle.sei_fault.specs.declared.cause.AbortCause.TheVariants.{Code, LogFull, OutFull, Bucket, Budget}
-use Rattle.sei_fault.specs.declared.cause.AbortCause.TheVariants.{Notes as NoNotes}
-use Rattle.sei_fault.specs.Tree.{Tree, honest, questions}
+use Rattle.sei_fault.specs.Tree.{Tree, honest, questions, Always}
 use Rattle.sei_fault.specs.Tree.Tree.{Ask}
-use Rattle.sei_fault.specs.Question.{Question, Answer, honestly_to}
-use Rattle.sei_fault.specs.Question.Question.{Value, Written, Test}
+use Rattle.sei_fault.specs.Question.Question.{Value, Test}
+use Rattle.sei_fault.proofs.Runs.{always_honest}
 use Rattle.sei_stmt.specs.declared.stmt.Stmt.{Stmt}
-use Rattle.sei_stmt.specs.declared.stmt.Stmt.TheVariants.{Const, Move, Add, Sub, Input, Load, Store, Emit, Jump, JumpEq, JumpLt, Now, Alloc, Parse, Render, Halt}
-use Rattle.sei_stmt.specs.Machine.{Machine, Setting, Outcome, After, register, ends, assign}
+use Rattle.sei_stmt.specs.declared.stmt.Stmt.TheVariants.{Input, Emit, Now, Alloc, Parse, Render, Halt}
+use Rattle.sei_stmt.specs.Machine.{Machine, Setting, Outcome, After, register, time_noted, slot_noted, one_made, assign}
 use Rattle.sei_stmt.specs.Machine.Outcome.{Next, Halted, Bad}
-use Rattle.sei_stmt.specs.Handling.{parsed_words, refilled}
-use Rattle.sei_stmt.specs.Statements.{read_word, store_word, store_changed, stored, noted_value, noted_now, note_now, now_tree, noted_slot_value, noted_slot, lowest_slot, alloc_tree, is_lent, parse_first, parse_bucket, parse_call, store_bytes, render_bytes, render_words, statement_tree, found_tree}
+use Rattle.sei_stmt.specs.Statements.{noted_value, noted_now, told_now, now_by, now_tree, fit_if, noted_slot_value, noted_slot, lowest_slot, alloc_by, alloc_tree, statement_tree, step_tree}
 use Rattle.sei_stmt.specs.Slots.{lowest_free, is_admissible}
 use Rattle.sei_stmt.specs.Honest.{after, onward, onward_from, asked_in, asked_after, HonestRun}
 use Rattle.sei_stmt.specs.Order.{timed, slotted, finished, only, stage_behind, stage_behind_found, stage_onward, stage_after}
 use Rattle.sei_stmt.proofs.TieLaws.{lowest_admissible}
+use Rattle.sei_stmt.proofs.PublicStatementEnds.{IsNow, now_or_not, statement_keeps, by_statement}
+use Rattle.sei_stmt.proofs.PublicStatementRuns.{looks, Repeats, plain_repeats, store_repeats, by_statements}
+use Rattle.sei_stmt.proofs.PublicStatementRuns.Looks.{Stores, Times, Slots, Neither}
 use Rattle.sei_traverse.specs.Comes.{again, renoted, renoted_end}
+use Rattle.sei_traverse.specs.Errand.{no_notes}
 
 -- one statement in both passes
 
--- the statement ends honestly as in the first pass, but for the notes, which it leaves, and asks as many questions
-pub record Same (notes : Notes) (m : Machine) (first second : Tree After) : Type 0 where
-  pub ended : honest second ≡ renoted_end notes (honest first)
-  pub asked : questions second ≡ questions first
-  pub left : (honest first).machine.notes ≡ m.notes
-
-asking : (notes : Notes) (m : Machine) {q : Question} {f s : Answer q → Tree After} → Same notes m (f (honestly_to q)) (s (honestly_to q)) → Same notes m (Ask q f) (Ask q s)
-asking notes m r = record { ended = r.ended; asked = ap (λ n. 1 + n) r.asked; left = r.left }
-
-same_read : (k : Notes) (m : Machine) (i to a : ℕ) (word : Option ℕ) → Same k m (read_word i m to a word) (read_word i (renoted k m) to a word)
-same_read k m i to a None = record { ended = refl; asked = refl; left = refl }
-same_read k m i to a (Some word) = record { ended = refl; asked = refl; left = refl }
-
-same_changed : (k : Notes) (m : Machine) (i a was v : ℕ) (room : Bool) →
-    Same k m (if room then Ask (Written v) (λ w. ends (stored m a was v w) (Next (i + 1))) else ends m (Bad LogFull))
-    (if room then Ask (Written v) (λ w. ends (stored (renoted k m) a was v w) (Next (i + 1))) else ends (renoted k m) (Bad LogFull))
-same_changed k m i a was v true = record { ended = refl; asked = refl; left = refl }
-same_changed k m i a was v false = record { ended = refl; asked = refl; left = refl }
-
-same_tested : (k : Notes) (m : Machine) (i a was v : ℕ) (equal : Bool) →
-    Same k m (if equal then ends m (Next (i + 1)) else store_changed i m a was v) (if equal then ends (renoted k m) (Next (i + 1)) else store_changed i (renoted k m) a was v)
-same_tested k m i a was v true = record { ended = refl; asked = refl; left = refl }
-same_tested k m i a was v false = same_changed k m i a was v (has_room m.log)
-
-same_store : (k : Notes) (m : Machine) (i from a : ℕ) (word : Option ℕ) → Same k m (store_word i m from a word) (store_word i (renoted k m) from a word)
-same_store k m i from a None = record { ended = refl; asked = refl; left = refl }
-same_store k m i from a (Some word) = asking k m (asking k m (asking k m (same_tested k m i a word (register m from) (word == register m from))))
-
-same_emit : (k : Notes) (m : Machine) (i r : ℕ) (room : Bool) →
-    Same k m (if room then Ask (Value r) (λ v. Ask (Written v) (λ w. ends (record m { output = pushed m.output w }) (Next (i + 1)))) else ends m (Bad OutFull))
-    (if room then Ask (Value r) (λ v. Ask (Written v) (λ w. ends (record (renoted k m) { output = pushed m.output w }) (Next (i + 1)))) else ends (renoted k m) (Bad OutFull))
-same_emit k m i r true = record { ended = refl; asked = refl; left = refl }
-same_emit k m i r false = record { ended = refl; asked = refl; left = refl }
-
-same_first : (k : Notes) (m : Machine) (i : ℕ) (words items : List ℕ) →
-    Same k m (parse_first i (record m { input = refilled m.input words }) items) (parse_first i (record (renoted k m) { input = refilled m.input words }) items)
-same_first k m i words [] = record { ended = refl; asked = refl; left = refl }
-same_first k m i words (x ∷ xs) = record { ended = refl; asked = refl; left = refl }
-
-same_bucket : (k : Notes) (m : Machine) (i : ℕ) (words : List ℕ) (b : Bool) →
-    Same k m (if b then parse_first i (record m { input = refilled m.input words }) words else ends (record m { input = refilled m.input words }) (Bad Bucket))
-    (if b then parse_first i (record (renoted k m) { input = refilled m.input words }) words else ends (record (renoted k m) { input = refilled m.input words }) (Bad Bucket))
-same_bucket k m i words true = same_first k m i words words
-same_bucket k m i words false = record { ended = refl; asked = refl; left = refl }
-
-same_call : (g : Setting) (k : Notes) (m : Machine) (i : ℕ) (words : List ℕ) (b : Bool) →
-    Same k m (if b then parse_bucket g i (record m { input = refilled m.input words }) else ends (record m { input = refilled m.input words }) (Bad Code))
-    (if b then parse_bucket (again g) i (record (renoted k m) { input = refilled m.input words }) else ends (record (renoted k m) { input = refilled m.input words }) (Bad Code))
-same_call g k m i words true = asking k m (same_bucket k m i words (is_lent g.lent g.parsed))
-same_call g k m i words false = record { ended = refl; asked = refl; left = refl }
-
-same_parse : (g : Setting) (k : Notes) (m : Machine) (i : ℕ) (words : List ℕ) (b : Bool) →
-    Same k m (if b then parse_call g i (record m { input = refilled m.input words }) else ends m (Bad Code))
-    (if b then parse_call (again g) i (record (renoted k m) { input = refilled m.input words }) else ends (renoted k m) (Bad Code))
-same_parse g k m i words true = asking k m (same_call g k m i words (is_some g.parsed))
-same_parse g k m i words false = record { ended = refl; asked = refl; left = refl }
-
-same_bytes : (k : Notes) (m : Machine) (i : ℕ) (code : Option ℕ) (bytes : List ℕ) →
-    Same k m (store_bytes i (record m { code = code }) bytes) (store_bytes i (record (renoted k m) { code = code }) bytes)
-same_bytes k m i code [] = record { ended = refl; asked = refl; left = refl }
-same_bytes k m i code (b ∷ bs) = record { ended = refl; asked = refl; left = refl }
-
-same_made : (k : Notes) (m : Machine) (i : ℕ) (code : Option ℕ) (bytes : List ℕ) (fits : Bool) →
-    Same k m (if fits then store_bytes i (record m { code = code }) bytes else ends (record m { bytes = emptied m.bytes }) (Bad OutFull))
-    (if fits then store_bytes i (record (renoted k m) { code = code }) bytes else ends (record (renoted k m) { bytes = emptied m.bytes }) (Bad OutFull))
-same_made k m i code bytes true = same_bytes k m i code bytes
-same_made k m i code bytes false = record { ended = refl; asked = refl; left = refl }
-
-same_rendered : (g : Setting) (k : Notes) (m : Machine) (i : ℕ) (made : Option (List ℕ)) → Same k m (render_bytes g i m made) (render_bytes (again g) i (renoted k m) made)
-same_rendered g k m i None = record { ended = refl; asked = refl; left = refl }
-same_rendered g k m i (Some bytes) = same_made k m i (Some (message_code g.answer bytes)) bytes (nat_le (length bytes) m.bytes.room)
-
-same_render : (g : Setting) (k : Notes) (m : Machine) (i : ℕ) (read words : List ℕ) → Same k m (render_words g i m read words) (render_words (again g) i (renoted k m) read words)
-same_render g k m i read [] = same_rendered g k m i (g.rendered read)
-same_render g k m i read (word ∷ words) = asking k m (same_render g k m i (read ++ word ∷ []) words)
-
--- a statement takes the time, or a slot, or is the same in both passes
+-- a statement takes the time, or a slot, or is the same in both passes: it leaves the notes
 pub data Kind (g : Setting) (k : Notes) (i : ℕ) (m : Machine) (s : Stmt) : Type 0 where
   Timing : (to : ℕ) → s ≡ Now to → Kind g k i m s
   Slotting : (to moment : ℕ) → s ≡ Alloc to moment → Kind g k i m s
-  Plain : Same k m (statement_tree g i m s) (statement_tree (again g) i (renoted k m) s) → Kind g k i m s
+  Plain : Repeats (renoted k) m.notes (statement_tree g i m s) (statement_tree (again g) i (renoted k m) s) → Kind g k i m s
 
 pub kind : (g : Setting) (k : Notes) (i : ℕ) (m : Machine) (s : Stmt) → Kind g k i m s
-kind g k i m (Const to number) = Plain (record { ended = refl; asked = refl; left = refl })
-kind g k i m (Move to from) = Plain (record { ended = refl; asked = refl; left = refl })
-kind g k i m (Add to left right) = Plain (record { ended = refl; asked = refl; left = refl })
-kind g k i m (Sub to left right) = Plain (record { ended = refl; asked = refl; left = refl })
-kind g k i m (Input to index) = Plain (asking k m (same_read k m i to (register m index) (slice_get m.input.items (register m index))))
-kind g k i m (Load to address) = Plain (asking k m (same_read k m i to (register m address) (slice_get m.words (register m address))))
-kind g k i m (Store address from) = Plain (asking k m (same_store k m i from (register m address) (slice_get m.words (register m address))))
-kind g k i m (Emit from) = Plain (same_emit k m i (register m from) (has_room m.output))
-kind g k i m (Jump offset) = Plain (record { ended = refl; asked = refl; left = refl })
-kind g k i m (JumpEq left right offset) = Plain (record { ended = refl; asked = refl; left = refl })
-kind g k i m (JumpLt left right offset) = Plain (record { ended = refl; asked = refl; left = refl })
-kind g k i m (Now to) = Timing to refl
-kind g k i m (Alloc to moment) = Slotting to moment refl
-kind g k i m Parse = Plain (asking k m (same_parse g k m i (parsed_words g.parsed) g.intact))
-kind g k i m Render = Plain (same_render g k m i [] m.output.items)
-kind g k i m Halt = Plain (record { ended = refl; asked = refl; left = refl })
+kind g k i m s = elim (looks s) [
+  | Stores address from is ↦
+      Plain (subst (λ (x : Stmt). Repeats (renoted k) m.notes (statement_tree g i m x) (statement_tree (again g) i (renoted k m) x)) (sym is) (store_repeats k i m address from))
+  | Times to is ↦ Timing to is
+  | Slots to moment is ↦ Slotting to moment is
+  | Neither plain ↦ Plain (plain_repeats true g.now (λ log. log) (λ notes. k) g i m s plain)
+]
 
 -- the statements that note
 
 -- the first pass takes the time of the clock
-pub now_first : (g : Setting) (i : ℕ) (m : Machine) (to : ℕ) → g.reading ≡ false → now_tree g i m to ≡ Ask (Value g.now) (λ v. assign i (note_now m g.now) to v)
-now_first g i m to first = ap (λ b. if b then noted_now i m to m.notes.now else Ask (Value g.now) (λ v. assign i (note_now m g.now) to v)) first
+pub now_first : (g : Setting) (i : ℕ) (m : Machine) (to : ℕ) → g.reading ≡ false → now_tree g i m to ≡ told_now i m to g.now
+now_first g i m to first = ap (λ b. now_by b g i m to) first
 
 -- and the lowest free slot
 alloc_first : (g : Setting) (i : ℕ) (m : Machine) (to moment : ℕ) → g.reading ≡ false →
     alloc_tree g i m to moment ≡ Ask (Value (register m moment)) (λ t. lowest_slot i m to (lowest_free g m.words t))
-alloc_first g i m to moment first =
-    ap (λ b. Ask (Value (register m moment)) (λ t. if b then noted_slot g i m to t m.notes.slot else lowest_slot i m to (lowest_free g m.words t))) first
+alloc_first g i m to moment first = ap (λ b. Ask (Value (register m moment)) (λ t. alloc_by b g i m to t)) first
 
--- a statement that doesn't ask for the time leaves the noted one
+-- a statement that is no Now, or that reads the noted time, leaves it
 
-now_kind : (g : Setting) (i : ℕ) (m : Machine) (s : Stmt) → g.reading ≡ false → Kind g m.notes i m s → ((to : ℕ) → s ≡ Now to → ⊥) → (honest (statement_tree g i m s)).machine.notes.now ≡ m.notes.now
-now_kind g i m s first (Timing to is) other = absurd (other to is)
-now_kind g i m s first (Slotting to moment is) other =
-    subst (λ s. (honest (statement_tree g i m s)).machine.notes.now ≡ m.notes.now) (sym is) (ap (λ (t : Tree After). (honest t).machine.notes.now) (alloc_first g i m to moment first))
-now_kind g i m s first (Plain r) other = ap (λ (n : Notes). n.now) r.left
+-- the noted time stands as in the machine
+abbrev pub Leaves : Machine → Machine → Type 0
+Leaves m y = y.notes.now ≡ m.notes.now
 
-now_counted : (g : Setting) (i : ℕ) (m c : Machine) (s : Stmt) (enough : Bool) → g.reading ≡ false → c.notes.now ≡ m.notes.now → ((to : ℕ) → s ≡ Now to → ⊥) →
-    (honest (if enough then statement_tree g i c s else ends m (Bad Budget))).machine.notes.now ≡ m.notes.now
-now_counted g i m c s true first same other = now_kind g i c s first (kind g c.notes i c s) other ∙ same
-now_counted g i m c s false first same other = refl
+pub leaves : (g : Setting) (i : ℕ) (m : Machine) (s : Stmt) → (IsNow s → g.reading ≡ false → ⊥) → Always (λ (x : After). Leaves m x.machine) (statement_tree g i m s)
+leaves g i m s other = statement_keeps g s (Leaves m) (record {
+  assigned = λ y to w h. h;
+  logged = λ is y a was w entry e r h. h;
+  emits = λ y w r h. h;
+  timed = λ is r. absurd (other is r);
+  slotted = λ is r y note h. h;
+  filled = λ y h. h;
+  first = λ y word w words e h. h;
+  coded = λ is y code h. h;
+  emptied = λ is y h. h;
+  rendered = λ is y byte bytes small fits h. h;
+}) i m refl
 
--- no statement but Now changes the noted time
-pub now_kept : (g : Setting) (i : ℕ) (m : Machine) (o : Option Stmt) → g.reading ≡ false → ((to : ℕ) → o ≡ Some (Now to) → ⊥) → (honest (found_tree g i m o)).machine.notes.now ≡ m.notes.now
-now_kept g i m None first other = refl
-now_kept g i m (Some s) first other = now_counted g i m (record m { made = m.made + 1 }) s (nat_lt m.made g.budget) first refl (λ to e. other to (ap Some e))
+-- a step that doesn't ask for the time leaves the noted one
+pub now_kept : (g : Setting) (i : ℕ) (m : Machine) → ((to : ℕ) → slice_get g.statements i ≡ Some (Now to) → ⊥) → (honest (step_tree g i m)).machine.notes.now ≡ m.notes.now
+now_kept g i m other = by_statement g i m (λ t. (honest t).machine.notes.now ≡ m.notes.now) (λ cause. refl) (λ s is b. elim (now_or_not s) [
+  | inl (to, now) ↦ absurd (other to (is ∙ ap Some now))
+  | inr never ↦ always_honest (λ (x : After). x.machine.notes.now ≡ m.notes.now) (statement_tree g i (one_made m) s) (leaves g i (one_made m) s (λ is r. never is))
+])
 
 pub read_sealed : (v : ℕ) → read_of (sealed v) ≡ Some v
 read_sealed v = simp (eq-eqb (complement v) (complement v) refl)
@@ -179,7 +101,7 @@ record Follows (notes : Notes) (first second : Tree After) : Type 0 where
 follows_now : (g : Setting) (k : Notes) (i : ℕ) (m : Machine) (to : ℕ) → g.reading ≡ false → Has k (honest (now_tree g i m to)).machine.notes →
     Follows k (now_tree g i m to) (now_tree (again g) i (renoted k m) to)
 follows_now g k i m to first has =
-    let one : now_tree g i m to ≡ Ask (Value g.now) (λ v. assign i (note_now m g.now) to v) = now_first g i m to first in
+    let one : now_tree g i m to ≡ told_now i m to g.now = now_first g i m to first in
     let noted : k.now ≡ Some (sealed g.now) = has.now (sealed g.now) (ap (λ (t : Tree After). (honest t).machine.notes.now) one) in
     let two : now_tree (again g) i (renoted k m) to ≡ Ask (Value g.now) (λ v. assign i (renoted k m) to v) =
     ap (λ o. noted_now i (renoted k m) to o) noted ∙ ap (λ o. noted_value i (renoted k m) to o) (read_sealed g.now) in
@@ -198,10 +120,10 @@ follows_alloc g k i m to moment first has =
     let slot : ℕ = lowest_free g m.words t in
     let one : alloc_tree g i m to moment ≡ Ask (Value (register m moment)) (λ t. lowest_slot i m to (lowest_free g m.words t)) = alloc_first g i m to moment first in
     let noted : k.slot ≡ Some (sealed slot) = has.slot (sealed slot) (ap (λ (t : Tree After). (honest t).machine.notes.slot) one) in
-    let tested : noted_slot (again g) i (renoted k m) to t k.slot ≡ Ask (Test (is_admissible g m.words t slot)) (λ fit. if fit then Ask (Value slot) (λ v. assign i (renoted k m) to v) else ends (renoted k m) (Bad NoNotes)) =
+    let tested : noted_slot (again g) i (renoted k m) to t k.slot ≡ Ask (Test (is_admissible g m.words t slot)) (λ fit. fit_if fit i (renoted k m) to slot) =
     ap (λ o. noted_slot (again g) i (renoted k m) to t o) noted ∙ ap (λ o. noted_slot_value (again g) i (renoted k m) to t o) (read_sealed slot) in
-    let two : noted_slot (again g) i (renoted k m) to t k.slot ≡ Ask (Test true) (λ fit. if fit then Ask (Value slot) (λ v. assign i (renoted k m) to v) else ends (renoted k m) (Bad NoNotes)) =
-    tested ∙ ap (λ b. Ask (Test b) (λ fit. if fit then Ask (Value slot) (λ v. assign i (renoted k m) to v) else ends (renoted k m) (Bad NoNotes))) (lowest_admissible g m.words t) in
+    let two : noted_slot (again g) i (renoted k m) to t k.slot ≡ Ask (Test true) (λ fit. fit_if fit i (renoted k m) to slot) =
+    tested ∙ ap (λ b. Ask (Test b) (λ fit. fit_if fit i (renoted k m) to slot)) (lowest_admissible g m.words t) in
     let before : questions (alloc_tree g i m to moment) ≡ 3 = ap (λ (t : Tree After). questions t) one in
     let behind : questions (alloc_tree (again g) i (renoted k m) to moment) ≡ 4 = ap (λ (t : Tree After). 1 + questions t) two in
     record {
@@ -217,25 +139,19 @@ follows_kind g k i m s first (Slotting to moment is) has =
     subst (λ s. Has k (honest (statement_tree g i m s)).machine.notes → Follows k (statement_tree g i m s) (statement_tree (again g) i (renoted k m) s)) (sym is) (follows_alloc g k i m to moment first) has
 follows_kind g k i m s first (Plain r) has = record { ended = r.ended; asked = omega (arith, r.asked) }
 
-follows_counted : (g : Setting) (k : Notes) (i : ℕ) (m c : Machine) (s : Stmt) (enough : Bool) → g.reading ≡ false →
-    Has k (honest (if enough then statement_tree g i c s else ends m (Bad Budget))).machine.notes →
-    Follows k (if enough then statement_tree g i c s else ends m (Bad Budget)) (if enough then statement_tree (again g) i (renoted k c) s else ends (renoted k m) (Bad Budget))
-follows_counted g k i m c s true first has = follows_kind g k i c s first (kind g k i c s) has
-follows_counted g k i m c s false first has = record { ended = refl; asked = omega arith }
-
-follows_found : (g : Setting) (k : Notes) (i : ℕ) (m : Machine) (o : Option Stmt) → g.reading ≡ false → Has k (honest (found_tree g i m o)).machine.notes →
-    Follows k (found_tree g i m o) (found_tree (again g) i (renoted k m) o)
-follows_found g k i m None first has = record { ended = refl; asked = omega arith }
-follows_found g k i m (Some s) first has = follows_counted g k i m (record m { made = m.made + 1 }) s (nat_lt m.made g.budget) first has
+follows_step : (g : Setting) (k : Notes) (i : ℕ) (m : Machine) → g.reading ≡ false → Has k (honest (step_tree g i m)).machine.notes → Follows k (step_tree g i m) (step_tree (again g) i (renoted k m))
+follows_step g k i m first =
+    by_statements true g.now (λ log. log) (λ notes. k) g i m (λ t u. Has k (honest t).machine.notes → Follows k t u) (λ cause has. record { ended = refl; asked = omega arith })
+    (λ s is has. follows_kind g k i (one_made m) s first (kind g k i (one_made m) s) has)
 
 onward_follows : (g : Setting) (k : Notes) (m : Machine) (o : Outcome) → g.reading ≡ false → Has k (onward_from g m o).machine.notes →
     onward_from (again g) (renoted k m) o ≡ renoted_end k (onward_from g m o)
-onward_follows g k m (Next i) first has = (follows_found g k i m (slice_get g.statements i) first has).ended
+onward_follows g k m (Next i) first has = (follows_step g k i m first has).ended
 onward_follows g k m Halted first has = refl
 onward_follows g k m (Bad cause) first has = refl
 
 asked_follows : (g : Setting) (k : Notes) (m : Machine) (o : Outcome) → g.reading ≡ false → Has k (onward_from g m o).machine.notes → asked_in g m o ≤ asked_in (again g) (renoted k m) o
-asked_follows g k m (Next i) first has = (follows_found g k i m (slice_get g.statements i) first has).asked
+asked_follows g k m (Next i) first has = (follows_step g k i m first has).asked
 asked_follows g k m Halted first has = omega arith
 asked_follows g k m (Bad cause) first has = omega arith
 
@@ -257,22 +173,18 @@ record Noting (old new : Notes) (stage : ℕ) : Type 0 where
 
 -- the stages rise
 rising : (stage next : ℕ) (s : Stmt) → stage_behind stage s ≡ Some next → stage ≤ next
-rising stage next (Const to number) e = let same : stage ≡ next = cc in omega (arith, same)
-rising stage next (Move to from) e = let same : stage ≡ next = cc in omega (arith, same)
-rising stage next (Add to left right) e = let same : stage ≡ next = cc in omega (arith, same)
-rising stage next (Sub to left right) e = let same : stage ≡ next = cc in omega (arith, same)
 rising stage next (Input to index) e = omega (arith, (only_so _ _ _ e).1)
-rising stage next (Load to address) e = let same : stage ≡ next = cc in omega (arith, same)
-rising stage next (Store address from) e = let same : stage ≡ next = cc in omega (arith, same)
 rising stage next (Emit from) e = omega (arith, (only_so _ _ _ e).1)
-rising stage next (Jump offset) e = let same : stage ≡ next = cc in omega (arith, same)
-rising stage next (JumpEq left right offset) e = let same : stage ≡ next = cc in omega (arith, same)
-rising stage next (JumpLt left right offset) e = let same : stage ≡ next = cc in omega (arith, same)
 rising stage next (Now to) e = let h = only_so _ _ _ e in omega (arith, eqb-true stage 1 h.0, h.1)
 rising stage next (Alloc to moment) e = let h = only_so _ _ _ e in omega (arith, eqb-true stage 2 h.0, h.1)
 rising stage next Parse e = let h = only_so _ _ _ e in omega (arith, eqb-true stage 0 h.0, h.1)
 rising stage next Render e = let h = only_so _ _ _ e in omega (arith, ltb-true stage 4 (and_parts _ _ h.0).1, h.1)
 rising stage next Halt e = omega (arith, (only_so _ _ _ e).1, eqb-true stage 4 (only_so _ _ _ e).0)
+rising stage next s e = let same : stage ≡ next = cc in omega (arith, same)
+
+rising_found : (stage next : ℕ) (o : Option Stmt) → stage_behind_found stage o ≡ Some next → stage ≤ next
+rising_found stage next None e = absurd cc
+rising_found stage next (Some s) e = rising stage next s e
 
 none_or_some : {A : Type 0} (o : Option A) (c : A) → o ≡ None → o ≡ Some c → ⊥
 none_or_some o c e f = cc
@@ -292,7 +204,7 @@ noting_now g i m to stage next first u e =
     let h = only_so _ _ _ e in
     let here : stage ≡ 1 = eqb-true stage 1 h.0 in
     let there : next ≡ 2 = sym h.1 in
-    let new : (honest (now_tree g i m to)).machine.notes ≡ record m.notes { now = Some (sealed g.now) } = ap (λ (t : Tree After). (honest t).machine.notes) (now_first g i m to first) in
+    let new : (honest (now_tree g i m to)).machine.notes ≡ time_noted m.notes (sealed g.now) = ap (λ (t : Tree After). (honest t).machine.notes) (now_first g i m to first) in
     subst (λ n. Noting m.notes n next) (sym new) (record {
       kept = record { now = λ c f. absurd (none_or_some m.notes.now c (u.untimed (omega (arith, here))) f); slot = λ c f. f };
       untold = record { untimed = λ lt. absurd (omega (arith, there, lt)); unslotted = λ lt. u.unslotted (omega (arith, here)) };
@@ -304,7 +216,7 @@ noting_alloc g i m to moment stage next first u e =
     let h = only_so _ _ _ e in
     let here : stage ≡ 2 = eqb-true stage 2 h.0 in
     let there : next ≡ 3 = sym h.1 in
-    let new : (honest (alloc_tree g i m to moment)).machine.notes ≡ record m.notes { slot = Some (sealed (lowest_free g m.words (register m moment))) } =
+    let new : (honest (alloc_tree g i m to moment)).machine.notes ≡ slot_noted m.notes (sealed (lowest_free g m.words (register m moment))) =
     ap (λ (t : Tree After). (honest t).machine.notes) (alloc_first g i m to moment first) in
     subst (λ n. Noting m.notes n next) (sym new) (record {
       kept = record { now = λ c f. f; slot = λ c f. absurd (none_or_some m.notes.slot c (u.unslotted (omega (arith, here))) f) };
@@ -319,21 +231,16 @@ noting_kind g i m s stage next first (Slotting to moment is) u e =
     subst (λ s. Noting m.notes (honest (statement_tree g i m s)).machine.notes next) (sym is) (noting_alloc g i m to moment stage next first u (ap (stage_behind stage) (sym is) ∙ e))
 noting_kind g i m s stage next first (Plain r) u e = noting_none m.notes (honest (statement_tree g i m s)).machine.notes stage next r.left u (rising stage next s e)
 
-noting_counted : (g : Setting) (i : ℕ) (m c : Machine) (s : Stmt) (enough : Bool) (stage next : ℕ) → g.reading ≡ false → c.notes ≡ m.notes → Untold stage m.notes → stage_behind stage s ≡ Some next →
-    Noting m.notes (honest (if enough then statement_tree g i c s else ends m (Bad Budget))).machine.notes next
-noting_counted g i m c s true stage next first same u e =
-    subst (λ n. Noting n (honest (statement_tree g i c s)).machine.notes next) same (noting_kind g i c s stage next first (kind g c.notes i c s) (subst (Untold stage) (sym same) u) e)
-noting_counted g i m c s false stage next first same u e = noting_none m.notes m.notes stage next refl u (rising stage next s e)
-
-noting_found : (g : Setting) (i : ℕ) (m : Machine) (o : Option Stmt) (stage next : ℕ) → g.reading ≡ false → Untold stage m.notes → stage_behind_found stage o ≡ Some next →
-    Noting m.notes (honest (found_tree g i m o)).machine.notes next
-noting_found g i m None stage next first u e = absurd cc
-noting_found g i m (Some s) stage next first u e = noting_counted g i m (record m { made = m.made + 1 }) s (nat_lt m.made g.budget) stage next first refl u e
+noting_step : (g : Setting) (i : ℕ) (m : Machine) (stage next : ℕ) → g.reading ≡ false → Untold stage m.notes → stage_behind_found stage (slice_get g.statements i) ≡ Some next →
+    Noting m.notes (honest (step_tree g i m)).machine.notes next
+noting_step g i m stage next first u e = by_statement g i m (λ t. Noting m.notes (honest t).machine.notes next)
+    (λ cause. noting_none m.notes m.notes stage next refl u (rising_found stage next (slice_get g.statements i) e))
+    (λ s is b. noting_kind g i (one_made m) s stage next first (kind g m.notes i (one_made m) s) u (ap (stage_behind_found stage) (sym is) ∙ e))
 
 noting_onward : (g : Setting) (m : Machine) (o : Outcome) (stage : Option ℕ) (next : ℕ) → g.reading ≡ false → ((s : ℕ) → stage ≡ Some s → Untold s m.notes) → stage_onward g stage o ≡ Some next →
     Noting m.notes (onward_from g m o).machine.notes next
 noting_onward g m o None next first u e = absurd cc
-noting_onward g m (Next i) (Some s) next first u e = noting_found g i m (slice_get g.statements i) s next first (u s refl) e
+noting_onward g m (Next i) (Some s) next first u e = noting_step g i m s next first (u s refl) e
 noting_onward g m Halted (Some s) next first u e = let same : s ≡ next = cc in noting_none m.notes m.notes s next refl (u s refl) (omega (arith, same))
 noting_onward g m (Bad cause) (Some s) next first u e = absurd cc
 
@@ -353,7 +260,7 @@ stage_within g start (suc d) n next e =
 pub stage_of : (g : Setting) (start : Machine) (n steps last : ℕ) → n ≤ steps → stage_after g start steps ≡ Some last → (s : ℕ) × (stage_after g start n ≡ Some s)
 stage_of g start n steps last le e = let all : steps - n + n ≡ steps = omega (arith, le) in stage_within g start (steps - n) n last (ap (stage_after g start) all ∙ e)
 
-module _ (g : Setting) (start : Machine) (first : g.reading ≡ false) (blank : start.notes ≡ record { now = None; slot = None }) where
+module _ (g : Setting) (start : Machine) (first : g.reading ≡ false) (blank : start.notes ≡ no_notes) where
   untold_at : (n stage : ℕ) → stage_after g start n ≡ Some stage → Untold stage (after g start n).machine.notes
   untold_at zero stage e = record { untimed = λ lt. ap (λ (n : Notes). n.now) blank; unslotted = λ lt. ap (λ (n : Notes). n.slot) blank }
   untold_at (suc n) stage e = (noting_onward g (after g start n).machine (after g start n).outcome (stage_after g start n) stage first (λ s h. untold_at n s h) e).untold

@@ -1,15 +1,11 @@
 -- Whatever a core answers, the time that is noted is the clock's.
-use Rattle.std.proofs.Common.{◌≡◌, ℕ, ◌+◌, ◌-◌, Bool, true, false, List, [], ◌∷◌, ◌++◌, length, Option, Some, None, refl, ap, ◌∙◌}
-use Rattle.std.specs.Prelude.{slice_get, if◌then◌else◌, ◌==◌, nat_lt, nat_le}
+use Rattle.std.proofs.Common.{◌≡◌, inl, inr, ℕ, ◌+◌, ◌-◌, Bool, true, false, List, [], ◌∷◌, length, Option, Some, None, refl, ap, sym, subst, ◌∙◌}
+use Rattle.std.specs.Prelude.{slice_get, if◌then◌else◌, ◌==◌, nat_lt}
 use Rattle.std.specs.declared.result.Result.{Result}
 use Rattle.std.specs.declared.result.Result.TheVariants.{Ok, Err}
-use Rattle.sei_code.specs.Codes.{message_code}
-use Rattle.sei_code.specs.Coded.{read_of}
-use Rattle.sei_code.specs.Kept.{has_room, pushed, emptied}
 use Rattle.sei_code.specs.declared.coded.Coded.{Coded}
 use Rattle.sei_fault.specs.declared.cause.AbortCause.{AbortCause}
-use Rattle.sei_fault.specs.declared.cause.AbortCause.TheVariants.{Code, LogFull, OutFull, Budget}
-use Rattle.sei_fault.specs.declared.cause.AbortCause.TheVariants.{Bucket as NoBucket, Notes as NoNotes, Range as OutOfRange, Differs as Differing}
+use Rattle.sei_fault.specs.declared.cause.AbortCause.TheVariants.{Range as OutOfRange, Differs as Differing}
 use Rattle.sei_fault.specs.declared.place.Act.{Act}
 use Rattle.sei_fault.specs.declared.place.Phase.{Phase}
 use Rattle.sei_fault.specs.declared.place.Phase.TheVariants.{Guard, Take, First, Restore, Second, Compare, Verify, Enter, Give, Send, Done}
@@ -17,19 +13,15 @@ use Rattle.sei_fault.specs.declared.place.Place.{Place}
 use Rattle.sei_fault.specs.declared.place.Times.{Times}
 use Rattle.sei_fault.specs.declared.place.Times.TheVariants.{Once, Skip, Twice}
 use Rattle.sei_fault.specs.Question.{Question, Answer}
-use Rattle.sei_fault.specs.Question.Question.{Value, Written}
 use Rattle.sei_fault.specs.Tree.{Tree, bound, Always}
-use Rattle.sei_fault.specs.Tree.Tree.{Ask}
-use Rattle.sei_fault.proofs.Runs.{always}
+use Rattle.sei_fault.proofs.Runs.{always, always_map}
 use Rattle.sei_gate.specs.Closing.{risen}
 use Rattle.sei_stmt.specs.declared.stmt.Stmt.{Stmt}
-use Rattle.sei_stmt.specs.declared.stmt.Stmt.TheVariants.{Const, Move, Add, Sub, Input, Load, Store, Emit, Jump, JumpEq, JumpLt, Now, Alloc, Parse, Render, Halt}
-use Rattle.sei_stmt.specs.Handling.{refilled}
-use Rattle.sei_stmt.specs.Machine.{Machine, Setting, Outcome, After, register, assign}
-use Rattle.sei_stmt.specs.Machine as machines
+use Rattle.sei_stmt.specs.declared.stmt.Stmt.TheVariants.{Now}
+use Rattle.sei_stmt.specs.Machine.{Machine, Setting, Outcome, After, one_made}
 use Rattle.sei_stmt.specs.Machine.Outcome.{Next, Halted, Bad}
-use Rattle.sei_stmt.specs.Slots.{lowest_free}
-use Rattle.sei_stmt.specs.Statements.{read_word, store_word, store_changed, stored, noted_value, noted_now, now_tree, noted_slot_value, noted_slot, lowest_slot, parse_first, parse_bucket, parse_call, store_bytes, render_bytes, render_words, statement_tree, found_tree, step_tree}
+use Rattle.sei_stmt.specs.Statements.{now_by, statement_tree, step_tree}
+use Rattle.sei_stmt.proofs.PublicStatementEnds.{IsNow, now_or_not, by_statement}
 use Rattle.sei_pass.specs.declared.given.Which.TheVariants.{Making, Reading}
 use Rattle.sei_pass.specs.Steps.{IsAnswer}
 use Rattle.sei_restore.specs.Undoing.{undo_at}
@@ -48,138 +40,32 @@ use Rattle.sei_traverse.specs.Phases.{guard_call, store_wanted, take_wanted, und
 use Rattle.sei_traverse.specs.Service.{Given, setting_in}
 use Rattle.sei_traverse.specs.Step.{Turn, turn, act_in, act_tree, site_of, goes, goes_on, once, unless_ended, twice, turn_as, turn_at, turn_tree, TimedTwice}
 use Rattle.sei_traverse.proofs.StepsBound.{always_bound, always_any}
-
--- a statement that is no Now leaves the noted time
-
--- the noted time stands as in the machine
-abbrev Leaves : Machine → After → Type 0
-Leaves m x = x.machine.notes.now ≡ m.notes.now
-
-leaves_read : (m : Machine) (i to a : ℕ) (word : Option ℕ) → Always (Leaves m) (read_word i m to a word)
-leaves_read m i to a None = refl
-leaves_read m i to a (Some word) = λ v w. refl
-
-leaves_changed : (m : Machine) (i a was v : ℕ) (room : Bool) →
-    Always (Leaves m) (if room then Ask (Written v) (λ w. machines.ends (stored m a was v w) (Next (i + 1))) else machines.ends m (Bad LogFull))
-leaves_changed m i a was v true = λ w. refl
-leaves_changed m i a was v false = refl
-
-leaves_tested : (m : Machine) (i a was v : ℕ) (same : Bool) → Always (Leaves m) (if same then machines.ends m (Next (i + 1)) else store_changed i m a was v)
-leaves_tested m i a was v true = refl
-leaves_tested m i a was v false = leaves_changed m i a was v (has_room m.log)
-
-leaves_store : (m : Machine) (i from a : ℕ) (word : Option ℕ) → Always (Leaves m) (store_word i m from a word)
-leaves_store m i from a None = refl
-leaves_store m i from a (Some word) = λ v was same. leaves_tested m i a was v same
-
-leaves_emit : (m : Machine) (i r : ℕ) (room : Bool) →
-    Always (Leaves m) (if room then Ask (Value r) (λ v. Ask (Written v) (λ w. machines.ends (record m { output = pushed m.output w }) (Next (i + 1)))) else machines.ends m (Bad OutFull))
-leaves_emit m i r true = λ v w. refl
-leaves_emit m i r false = refl
-
-leaves_noted : (m : Machine) (i to : ℕ) (n : Option ℕ) → Always (Leaves m) (noted_value i m to n)
-leaves_noted m i to None = refl
-leaves_noted m i to (Some n) = λ v w. refl
-
-leaves_note : (m : Machine) (i to : ℕ) (note : Option Coded) → Always (Leaves m) (noted_now i m to note)
-leaves_note m i to None = refl
-leaves_note m i to (Some note) = leaves_noted m i to (read_of note)
-
-leaves_fit : (m : Machine) (i to slot : ℕ) (fit : Bool) → Always (Leaves m) (if fit then Ask (Value slot) (λ v. assign i m to v) else machines.ends m (Bad NoNotes))
-leaves_fit m i to slot true = λ v w. refl
-leaves_fit m i to slot false = refl
-
-leaves_slot : (g : Setting) (m : Machine) (i to moment : ℕ) (slot : Option ℕ) → Always (Leaves m) (noted_slot_value g i m to moment slot)
-leaves_slot g m i to moment None = refl
-leaves_slot g m i to moment (Some slot) = λ fit. leaves_fit m i to slot fit
-
-leaves_noted_slot : (g : Setting) (m : Machine) (i to moment : ℕ) (note : Option Coded) → Always (Leaves m) (noted_slot g i m to moment note)
-leaves_noted_slot g m i to moment None = refl
-leaves_noted_slot g m i to moment (Some note) = leaves_slot g m i to moment (read_of note)
-
-leaves_alloc : (g : Setting) (m : Machine) (i to t : ℕ) (reading : Bool) →
-    Always (Leaves m) (if reading then noted_slot g i m to t m.notes.slot else lowest_slot i m to (lowest_free g m.words t))
-leaves_alloc g m i to t true = leaves_noted_slot g m i to t m.notes.slot
-leaves_alloc g m i to t false = λ v w. refl
-
--- the input words may have been filled
-leaves_first : (m : Machine) (i : ℕ) (words items : List ℕ) → Always (Leaves m) (parse_first i (record m { input = refilled m.input words }) items)
-leaves_first m i words [] = refl
-leaves_first m i words (x ∷ xs) = λ w. refl
-
-leaves_bucket : (m : Machine) (i : ℕ) (words : List ℕ) (b : Bool) →
-    Always (Leaves m) (if b then parse_first i (record m { input = refilled m.input words }) words else machines.ends (record m { input = refilled m.input words }) (Bad NoBucket))
-leaves_bucket m i words true = leaves_first m i words words
-leaves_bucket m i words false = refl
-
-leaves_call : (g : Setting) (m : Machine) (i : ℕ) (words : List ℕ) (b : Bool) →
-    Always (Leaves m) (if b then parse_bucket g i (record m { input = refilled m.input words }) else machines.ends (record m { input = refilled m.input words }) (Bad Code))
-leaves_call g m i words true = λ c. leaves_bucket m i words c
-leaves_call g m i words false = refl
-
-leaves_parse : (g : Setting) (m : Machine) (i : ℕ) (words : List ℕ) (b : Bool) →
-    Always (Leaves m) (if b then parse_call g i (record m { input = refilled m.input words }) else machines.ends m (Bad Code))
-leaves_parse g m i words true = λ c. leaves_call g m i words c
-leaves_parse g m i words false = refl
-
--- the output code may have been made
-leaves_bytes : (m : Machine) (i : ℕ) (code : Option ℕ) (bytes : List ℕ) → Always (Leaves m) (store_bytes i (record m { code = code }) bytes)
-leaves_bytes m i code [] = refl
-leaves_bytes m i code (b ∷ bs) = λ w. refl
-
-leaves_made : (m : Machine) (i : ℕ) (code : Option ℕ) (bytes : List ℕ) (fits : Bool) →
-    Always (Leaves m) (if fits then store_bytes i (record m { code = code }) bytes else machines.ends (record m { bytes = emptied m.bytes }) (Bad OutFull))
-leaves_made m i code bytes true = leaves_bytes m i code bytes
-leaves_made m i code bytes false = refl
-
-leaves_rendered : (g : Setting) (m : Machine) (i : ℕ) (made : Option (List ℕ)) → Always (Leaves m) (render_bytes g i m made)
-leaves_rendered g m i None = refl
-leaves_rendered g m i (Some bytes) = leaves_made m i (Some (message_code g.answer bytes)) bytes (nat_le (length bytes) m.bytes.room)
-
-leaves_render : (g : Setting) (m : Machine) (i : ℕ) (read words : List ℕ) → Always (Leaves m) (render_words g i m read words)
-leaves_render g m i read [] = leaves_rendered g m i (g.rendered read)
-leaves_render g m i read (word ∷ words) = λ v. leaves_render g m i (read ++ v ∷ []) words
+use Rattle.sei_traverse.proofs.NoteLaws.{Leaves, leaves}
 
 module _ (told : Option ℕ) where
-  -- what always leaves the noted time notes nothing new
-  quiet : (m : Machine) (t : Tree After) → Always (Leaves m) t → Always (λ (x : After). NotesTime told m.notes.now x.machine.notes.now) t
-  quiet m (Tree.Done r) p = Same p
-  quiet m (Tree.Ask q k) p = λ a. quiet m (k a) (p a)
+  -- an end that notes nothing, or the clock's answer
+  abbrev NotesOf : Machine → After → Type 0
+  NotesOf m x = NotesTime told m.notes.now x.machine.notes.now
+
+  notes_nothing : (g : Setting) (i : ℕ) (m : Machine) (s : Stmt) → (IsNow s → g.reading ≡ false → ⊥) → Always (NotesOf m) (statement_tree g i m s)
+  notes_nothing g i m s other = always_map (λ (x : After). Leaves m x.machine) (NotesOf m) (statement_tree g i m s) (λ x e. Same e) (leaves g i m s other)
 
   -- the first pass notes the clock's answer, and the second notes nothing
-  notes_now : (g : Setting) (m : Machine) (i to : ℕ) (reading : Bool) → IsAnswer told g.now →
-      Always (λ (x : After). NotesTime told m.notes.now x.machine.notes.now) (now_tree (record g { reading = reading }) i m to)
-  notes_now g m i to true answer = quiet m (noted_now i m to m.notes.now) (leaves_note m i to m.notes.now)
-  notes_now g m i to false answer = λ v w. Noted g.now answer refl
+  notes_now : (g : Setting) (i : ℕ) (m : Machine) (to : ℕ) (reading : Bool) → g.reading ≡ reading → IsAnswer told g.now → Always (NotesOf m) (now_by reading g i m to)
+  notes_now g i m to true e answer =
+      subst (λ (b : Bool). Always (NotesOf m) (now_by b g i m to)) e (notes_nothing g i m (Now to) (λ is r. let z : true ≡ false = sym e ∙ r in absurd cc))
+  notes_now g i m to false e answer = λ v w. Noted g.now answer refl
 
   -- each statement
-  notes : (g : Setting) (i : ℕ) (m : Machine) (s : Stmt) → IsAnswer told g.now → Always (λ (x : After). NotesTime told m.notes.now x.machine.notes.now) (statement_tree g i m s)
-  notes g i m (Const to number) answer = λ w. Same refl
-  notes g i m (Move to from) answer = λ v w. Same refl
-  notes g i m (Add to left right) answer = λ a b w. Same refl
-  notes g i m (Sub to left right) answer = λ a b w. Same refl
-  notes g i m (Input to index) answer = λ a. quiet m (read_word i m to a (slice_get m.input.items a)) (leaves_read m i to a (slice_get m.input.items a))
-  notes g i m (Load to address) answer = λ a. quiet m (read_word i m to a (slice_get m.words a)) (leaves_read m i to a (slice_get m.words a))
-  notes g i m (Store address from) answer = λ a. quiet m (store_word i m from a (slice_get m.words a)) (leaves_store m i from a (slice_get m.words a))
-  notes g i m (Emit from) answer = quiet m (statement_tree g i m (Emit from)) (leaves_emit m i (register m from) (has_room m.output))
-  notes g i m (Jump offset) answer = Same refl
-  notes g i m (JumpEq left right offset) answer = λ a b c. Same refl
-  notes g i m (JumpLt left right offset) answer = λ a b c. Same refl
-  notes g i m (Now to) answer = notes_now g m i to g.reading answer
-  notes g i m (Alloc to moment) answer = quiet m (statement_tree g i m (Alloc to moment)) (λ t. leaves_alloc g m i to t g.reading)
-  notes g i m Parse answer = quiet m (statement_tree g i m Parse) (λ b. leaves_parse g m i _ b)
-  notes g i m Render answer = quiet m (statement_tree g i m Render) (leaves_render g m i [] m.output.items)
-  notes g i m Halt answer = Same refl
+  notes : (g : Setting) (i : ℕ) (m : Machine) (s : Stmt) → IsAnswer told g.now → Always (NotesOf m) (statement_tree g i m s)
+  notes g i m s answer = elim (now_or_not s) [
+    | inl (to, is) ↦ subst (λ (x : Stmt). Always (NotesOf m) (statement_tree g i m x)) (sym is) (notes_now g i m to g.reading refl answer)
+    | inr other ↦ notes_nothing g i m s (λ is r. other is)
+  ]
 
   -- and each step of a pass
-  notes_counted : (g : Setting) (i : ℕ) (m : Machine) (s : Stmt) (enough : Bool) → IsAnswer told g.now →
-      Always (λ (x : After). NotesTime told m.notes.now x.machine.notes.now) (if enough then statement_tree g i (record m { made = m.made + 1 }) s else machines.ends m (Bad Budget))
-  notes_counted g i m s true answer = notes g i (record m { made = m.made + 1 }) s answer
-  notes_counted g i m s false answer = Same refl
-
-  pub notes_found : (g : Setting) (i : ℕ) (m : Machine) (o : Option Stmt) → IsAnswer told g.now → Always (λ (x : After). NotesTime told m.notes.now x.machine.notes.now) (found_tree g i m o)
-  notes_found g i m None answer = Same refl
-  notes_found g i m (Some s) answer = notes_counted g i m s (nat_lt m.made g.budget) answer
+  pub notes_step : (g : Setting) (i : ℕ) (m : Machine) → IsAnswer told g.now → Always (λ (x : After). NotesTime told m.notes.now x.machine.notes.now) (step_tree g i m)
+  notes_step g i m answer = by_statement g i m (Always (NotesOf m)) (λ cause. Same refl) (λ s e b. notes g i (one_made m) s answer)
 
   -- what is noted in two pieces of work, one behind the other
   behind : (a b c : Option Coded) → NotesTime told a b → NotesTime told b c → NotesTime told a c
@@ -215,11 +101,11 @@ module _ (told : Option ℕ) where
     take_room v words true e = Same (ap (λ n. n.now) e)
     take_room v words false e = Same (ap (λ n. n.now) e)
 
-    take_closed : (g : Given) (words : List ℕ) (yes : Bool) → Always Notes (closed_to w words (take_wanted g.geometry words) (yes, if yes then risen w.gate.done else w.gate.done))
-    take_closed g words true = take_room (record w { gate = record { done = risen w.gate.done } }) words (nat_lt w.wanted g.geometry.buckets) refl
+    take_closed : (g : Given) (words : List ℕ) (yes : Bool) → Always Notes (closed_to w words (take_wanted g.space.geometry words) (yes, if yes then risen w.gate.done else w.gate.done))
+    take_closed g words true = take_room (record w { gate = record { done = risen w.gate.done } }) words (nat_lt w.wanted g.space.geometry.buckets) refl
     take_closed g words false = Same refl
 
-    notes_take : (g : Given) (words : List ℕ) (b : Bool) → Always Notes (if b then store_wanted g w words else closing_then Take w words (take_wanted g.geometry words))
+    notes_take : (g : Given) (words : List ℕ) (b : Bool) → Always Notes (if b then store_wanted g w words else closing_then Take w words (take_wanted g.space.geometry words))
     notes_take g words true = λ b wanted. Same refl
     notes_take g words false = λ yes. take_closed g words yes
 
@@ -233,7 +119,7 @@ module _ (told : Option ℕ) where
         let s : Setting = setting_in g Making w.sealed now in
         always_bound (λ (x : After). NotesTime told w.notes.now x.machine.notes.now) Notes (step_tree s index (first_machine w words)) (first_to w)
         (λ x h. first_onward (with_first w x.machine) x.machine.words x.outcome h)
-        (notes_found s index (first_machine w words) (slice_get s.statements index) answer)
+        (notes_step s index (first_machine w words) answer)
 
     second_onward : (v : Walk) (words : List ℕ) (o : Outcome) → NotesTime told w.notes.now v.notes.now → Always Notes (second_from v words o)
     second_onward v words (Next i) h = h
@@ -245,7 +131,7 @@ module _ (told : Option ℕ) where
         let s : Setting = setting_in g Reading w.sealed now in
         always_bound (λ (x : After). NotesTime told w.notes.now x.machine.notes.now) Notes (step_tree s index (second_machine w words)) (second_to w)
         (λ x h. second_onward (with_second w x.machine) x.machine.words x.outcome h)
-        (notes_found s index (second_machine w words) (slice_get s.statements index) answer)
+        (notes_step s index (second_machine w words) answer)
 
     notes_undone : (words : List ℕ) (index : ℕ) (cause : Option AbortCause) → Always Notes (undone_as w words index cause)
     notes_undone words index None = Same refl

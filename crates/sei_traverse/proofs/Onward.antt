@@ -1,6 +1,6 @@
 -- A traversal that is on its way still is behind a step.
 use Rattle.std.proofs.Common.{◌≡◌, ℕ, suc, ◌+◌, ◌-◌, ◌^◌, ◌<◌, ◌≤◌, ◌⊎◌, inl, inr, List, Option, Some, None, refl, sym, ap, ◌∙◌, subst, arith}
-use Rattle.mc_model.specs.declared.geometry.Geometry.{Geometry}
+use Rattle.sei_pass.specs.declared.spaces.PassSpace.{PassSpace}
 use Rattle.sei_fault.specs.Counts.{Counts, Answered}
 use Rattle.sei_fault.specs.declared.place.Act.TheVariants.{Plain}
 use Rattle.sei_fault.specs.declared.place.Place.{Place}
@@ -39,7 +39,7 @@ left_of None words = None
 left_of (Some b) words = Some words
 
 abbrev pub given_with : Errand → Option BucketWords → Given
-given_with e loan = given_of e.service e.input e.geometry (bucket_of loan)
+given_with e loan = given_of e.service e.input e.space (bucket_of loan)
 
 abbrev pub ActsOn : Errand → ℕ → Walk → Option BucketWords → ℕ → ℕ → Phase → Type 0
 ActsOn e now w loan steps asked p =
@@ -49,7 +49,7 @@ ActsOn e now w loan steps asked p =
 of_bucket : (e : Errand) (now : ℕ) (w : Walk) (b : BucketWords) (steps asked : ℕ) (p : Phase) → b.bucket ≡ e.call.bucket →
     GoesOn e (given_in e) now p w b.words (λ left. Some left) steps asked → ActsOn e now w (Some b) steps asked p
 of_bucket e now w b steps asked p h a =
-    inl (subst (λ (n : ℕ). GoesOn e (given_of e.service e.input e.geometry (Some n)) now p w b.words (λ left. Some left) steps asked) (sym h) a)
+    inl (subst (λ (n : ℕ). GoesOn e (given_of e.service e.input e.space (Some n)) now p w b.words (λ left. Some left) steps asked) (sym h) a)
 
 module _ (e : Errand) (ie : IsErrand e) (now : ℕ) (small : now < 2 ^ 64) (told : Follows e.clock now) (w : Walk) (nothing : w.want ≡ Nothing) (steps asked : ℕ) where
   pub acts_on : (loan : Option BucketWords) (p : Phase) → Lends e p loan → CleanIn e w (lent_words loan) steps asked p → ActsOn e now w loan steps asked p
@@ -114,7 +114,7 @@ data Honestly (e : Errand) (old new : TraversalState) (lent : Option (List ℕ))
   Ends : state ≡ Finished → IsCleanEnd e new begin now → new.walk.want ≡ want_in e old.walk old.walk.place.phase → NextIn old.walk.place.phase old.walk.place.index new.walk.place.phase → Honestly e old new lent begin now state
 
 module _ (e : Errand) (ie : IsErrand e) (begin c d : Counts) (old new : TraversalState) (loan left : Option BucketWords) (state : State) (now later : ℕ) (small : now < 2 ^ 64) (told : Follows e.clock now)
-    (lends : Lends e old.walk.place.phase loan) (same : place_of left ≡ place_of loan) (geometry : new.geometry ≡ old.geometry) (steps : new.steps ≡ one_more old.steps)
+    (lends : Lends e old.walk.place.phase loan) (same : place_of left ≡ place_of loan) (space : new.space ≡ old.space) (steps : new.steps ≡ one_more old.steps)
     (run : Runs any_core (turn_tree (given_with e loan) now later old.walk (words_of loan)) c d (turn new.walk (words_of left) state))
     (clean : IsClean e old (lent_words loan) begin c) (unstruck : d.struck ≡ c.struck) where
   honest_end : turn new.walk (words_of left) state ≡ honest (turn_tree (given_with e loan) now later old.walk (words_of loan))
@@ -143,7 +143,7 @@ module _ (e : Errand) (ie : IsErrand e) (begin c d : Counts) (old new : Traversa
       let more_at_most : a.more ≤ questions (turn_tree (given_with e loan) now later old.walk (words_of loan)) = omega (arith, a.asks, asks) in
       Goes (ap (λ (x : Turn). x.state) h)
       (record {
-        geometry = geometry ∙ clean.geometry;
+        space = space ∙ clean.space;
         asked = clean.asked + a.more;
         clean = record {
           in_phase = subst (λ (u : Walk). CleanIn e u (lent_words left) new.steps (clean.asked + a.more) u.place.phase) (sym walk_is)
@@ -224,37 +224,37 @@ module _ (e : Errand) (begin now : Counts) (old new : TraversalState) (lent : Op
 pub stays_on_way : {S : Type 0} (gives : S → (q : Question) → Answer q → S → Type 0) (counts : S → Counts) →
     ((s : S) (q : Question) (a : Answer q) (t : S) → gives s q a t → Answered (a ≡ honestly_to q) (counts s) (counts t)) →
     (told : Option ℕ) (e : Errand) (begin : Counts) (old new : TraversalState) (loan left : Option BucketWords) (state : State) (s t : S) →
-    TimedTwice gives told (λ now later. turn_tree (given_of e.service e.input old.geometry (bucket_of loan)) now later old.walk (words_of loan)) s t (turn new.walk (words_of left) state) →
-    place_of left ≡ place_of loan → new.geometry ≡ old.geometry → new.steps ≡ one_more old.steps →
+    TimedTwice gives told (λ now later. turn_tree (given_of e.service e.input old.space (bucket_of loan)) now later old.walk (words_of loan)) s t (turn new.walk (words_of left) state) →
+    place_of left ≡ place_of loan → new.space ≡ old.space → new.steps ≡ one_more old.steps →
     IsErrand e → TellsAs e.clock told → Lends e old.walk.place.phase loan → OnWay e old (lent_words loan) begin (counts s) →
     StaysOnWay e old new (lent_words left) begin (counts t) new.walk.want state
-stays_on_way gives counts law told e begin old new loan left state s t turned same geometry steps ie tells lends way =
-    let tree : Geometry → _ = λ g. turn_tree (given_of e.service e.input g (bucket_of loan)) turned.now turned.later old.walk (words_of loan) in
+stays_on_way gives counts law told e begin old new loan left state s t turned same space steps ie tells lends way =
+    let tree : PassSpace → _ = λ g. turn_tree (given_of e.service e.input g (bucket_of loan)) turned.now turned.later old.walk (words_of loan) in
     let x = turn new.walk (words_of left) state in
-    let run = counted_runs gives counts law (tree old.geometry) s t x turned.runs in
-    let fell = never_falls (tree old.geometry) (counts s) (counts t) x run in
+    let run = counted_runs gives counts law (tree old.space) s t x turned.runs in
+    let fell = never_falls (tree old.space) (counts s) (counts t) x run in
     stays e begin (counts t) old new (lent_words left) (omega (arith, way.later, fell)) state
     (λ unstruck.
     let before : (counts s).struck ≡ begin.struck = omega (arith, way.later, fell, unstruck) in
     let clean = way.clean before in
-    let run_on = subst (λ (g : Geometry). Runs any_core (tree g) (counts s) (counts t) x) clean.geometry run in
+    let run_on = subst (λ (g : PassSpace). Runs any_core (tree g) (counts s) (counts t) x) clean.space run in
     let answer = answer_is e.clock told turned.now ie.clock tells turned.answer in
-    honestly e ie begin (counts s) (counts t) old new loan left state turned.now turned.later answer.0 answer.1 lends same geometry steps run_on clean (unstruck ∙ sym before))
+    honestly e ie begin (counts s) (counts t) old new loan left state turned.now turned.later answer.0 answer.1 lends same space steps run_on clean (unstruck ∙ sym before))
 
 -- the same of a service and an input that are the errand's
 pub stays_on_way_given : {S : Type 0} (gives : S → (q : Question) → Answer q → S → Type 0) (counts : S → Counts) →
     ((s : S) (q : Question) (a : Answer q) (t : S) → gives s q a t → Answered (a ≡ honestly_to q) (counts s) (counts t)) →
     (told : Option ℕ) (e : Errand) (begin : Counts) (old new : TraversalState) (loan left : Option BucketWords) (state : State) (s t : S) (service : Service) (input : List ℕ) →
     e.service ≡ service → e.input ≡ input →
-    TimedTwice gives told (λ now later. turn_tree (given_of service input old.geometry (bucket_of loan)) now later old.walk (words_of loan)) s t (turn new.walk (words_of left) state) →
-    place_of left ≡ place_of loan → new.geometry ≡ old.geometry → new.steps ≡ one_more old.steps →
+    TimedTwice gives told (λ now later. turn_tree (given_of service input old.space (bucket_of loan)) now later old.walk (words_of loan)) s t (turn new.walk (words_of left) state) →
+    place_of left ≡ place_of loan → new.space ≡ old.space → new.steps ≡ one_more old.steps →
     IsErrand e → TellsAs e.clock told → Lends e old.walk.place.phase loan → OnWay e old (lent_words loan) begin (counts s) →
     StaysOnWay e old new (lent_words left) begin (counts t) new.walk.want state
-stays_on_way_given gives counts law told e begin old new loan left state s t service input f h turned same geometry steps ie tells lends way =
+stays_on_way_given gives counts law told e begin old new loan left state s t service input f h turned same space steps ie tells lends way =
     stays_on_way gives counts law told e begin old new loan left state s t
-    (subst (λ (x : Service). TimedTwice gives told (λ now later. turn_tree (given_of x e.input old.geometry (bucket_of loan)) now later old.walk (words_of loan)) s t (turn new.walk (words_of left) state)) (sym f)
-    (subst (λ (x : List ℕ). TimedTwice gives told (λ now later. turn_tree (given_of service x old.geometry (bucket_of loan)) now later old.walk (words_of loan)) s t (turn new.walk (words_of left) state)) (sym h) turned))
-    same geometry steps ie tells lends way
+    (subst (λ (x : Service). TimedTwice gives told (λ now later. turn_tree (given_of x e.input old.space (bucket_of loan)) now later old.walk (words_of loan)) s t (turn new.walk (words_of left) state)) (sym f)
+    (subst (λ (x : List ℕ). TimedTwice gives told (λ now later. turn_tree (given_of service x old.space (bucket_of loan)) now later old.walk (words_of loan)) s t (turn new.walk (words_of left) state)) (sym h) turned))
+    same space steps ie tells lends way
 
 -- in Guard an input that fails is refused
 refuses_there : (g : Given) (now later : ℕ) (w : Walk) (words : List ℕ) → FailsGuard g w.sealed →
@@ -266,11 +266,11 @@ refuses_there g now later w words f =
 
 pub refused_run : {S : Type 0} (gives : S → (q : Question) → Answer q → S → Type 0) (counts : S → Counts) →
     ((s : S) (q : Question) (a : Answer q) (t : S) → gives s q a t → Answered (a ≡ honestly_to q) (counts s) (counts t)) →
-    (told : Option ℕ) (service : Service) (input : List ℕ) (geometry : Geometry) (lent : Option ℕ) (w v : Walk) (words left : List ℕ) (state : State) (s t : S) →
-    TimedTwice gives told (λ now later. turn_tree (given_of service input geometry lent) now later w words) s t (turn v left state) →
-    IsUnfit (given_of service input geometry None) w → (counts t).struck ≡ (counts s).struck → state ≡ Refused
-refused_run gives counts law told service input geometry lent w v words left state s t turned unfit same =
-    let g = given_of service input geometry lent in
+    (told : Option ℕ) (service : Service) (input : List ℕ) (space : PassSpace) (lent : Option ℕ) (w v : Walk) (words left : List ℕ) (state : State) (s t : S) →
+    TimedTwice gives told (λ now later. turn_tree (given_of service input space lent) now later w words) s t (turn v left state) →
+    IsUnfit (given_of service input space None) w → (counts t).struck ≡ (counts s).struck → state ≡ Refused
+refused_run gives counts law told service input space lent w v words left state s t turned unfit same =
+    let g = given_of service input space lent in
     let x = turn v left state in
     let w0 : Walk = record w { place = at Guard 0 } in
     let run = counted_runs gives counts law (turn_tree g turned.now turned.later w words) s t x turned.runs in

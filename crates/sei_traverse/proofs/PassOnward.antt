@@ -4,7 +4,7 @@ use Rattle.std.specs.Prelude.{slice_get}
 use Rattle.std.specs.Option.{option_map}
 use Rattle.std.proofs.lemmas.Bool.{cases_lt}
 use Rattle.std.proofs.lemmas.Option.{same_Some}
-use Rattle.mc_model.specs.declared.geometry.Geometry.{Geometry}
+use Rattle.sei_pass.specs.declared.spaces.PassSpace.{PassSpace}
 use Rattle.sei_fault.specs.declared.cause.AbortCause.{AbortCause}
 use Rattle.sei_fault.specs.declared.cause.AbortCause.TheVariants.{Table}
 use Rattle.sei_fault.specs.declared.place.Act.{Act}
@@ -61,9 +61,9 @@ ends_in (Next index) = Goes index refl
 ends_in Halted = Halts refl
 ends_in (Bad cause) = Aborting cause refl
 
--- a pass of a geometry is known by its machine
-pass_known : (p : PassState) (g : Geometry) (m : Machine) → p.geometry ≡ g → pass_of p m ≡ pass_of (new_pass g) m
-pass_known p g m e = ap (λ (g : Geometry). let r : PassState = record (pass_of p m) { geometry = g } in r) e
+-- a pass of a space is known by its machine
+pass_known : (p : PassState) (g : PassSpace) (m : Machine) → p.space ≡ g → pass_of p m ≡ pass_of (new_pass g) m
+pass_known p g m e = ap (λ (g : PassSpace). let r : PassState = record (pass_of p m) { space = g } in r) e
 
 -- The first pass.
 
@@ -134,7 +134,7 @@ module _ (e : Errand) (now : ℕ) (w : Walk) (words : List ℕ) where
       is = record { sealed = is.sealed; gate = is.gate };
       second = record { second = second.second; second_log = second.second_log };
       at = record {
-        geometry = runs.geometry;
+        space = runs.space;
         made = suc runs.made;
         comes = subst (λ (o : Outcome). Comes (first_setting e) (first_start e) (suc runs.made) (record { machine = first_end.machine; outcome = o }) (asked + questions first_step)) next first_comes;
         told = first_followed.told;
@@ -177,7 +177,7 @@ module _ (e : Errand) (now : ℕ) (w : Walk) (words : List ℕ) where
       made = suc runs.made;
       end = first_end.machine;
       whole = first_whole halts;
-      first = record { first = pass_known w.first e.geometry first_end.machine runs.geometry; first_log = refl; notes = refl };
+      first = record { first = pass_known w.first e.space first_end.machine runs.space; first_log = refl; notes = refl };
       second = record { second = second.second; second_log = second.second_log };
       index = omega arith;
       words = refl;
@@ -323,7 +323,7 @@ module _ (e : Errand) (w : Walk) (words : List ℕ) (steps asked : ℕ) (h : InS
     end = h.end;
     whole = h.whole;
     first = record { first = h.first.first; first_log = h.first.first_log; notes = second_notes };
-    geometry = h.geometry;
+    space = h.space;
     words = second_end.machine.words;
     lent_are = refl;
     n = suc h.n;
@@ -340,7 +340,7 @@ module _ (e : Errand) (w : Walk) (words : List ℕ) (steps asked : ℕ) (h : InS
     whole = h.whole;
     first = record { first = h.first.first; first_log = h.first.first_log; notes = second_notes };
     second = record {
-      second = pass_known w.second e.geometry second_end.machine h.geometry ∙ ap (pass_of (new_pass e.geometry)) (second_ended halts);
+      second = pass_known w.second e.space second_end.machine h.space ∙ ap (pass_of (new_pass e.space)) (second_ended halts);
       second_log = ap (λ (m : Machine). m.log) (second_ended halts);
     };
     words = ap (λ (m : Machine). let o : Option (List ℕ) = Some m.words in o) (second_ended halts);

@@ -31,11 +31,11 @@ lent_in phase words = Some words
 
 -- what the acts of a phase are given, where the wanted bucket is lent
 abbrev pub given_for : Errand → Phase → ℕ → Given
-given_for e Guard wanted = given_of e.service e.input e.geometry None
-given_for e Take wanted = given_of e.service e.input e.geometry None
-given_for e Send wanted = given_of e.service e.input e.geometry None
-given_for e Done wanted = given_of e.service e.input e.geometry None
-given_for e phase wanted = given_of e.service e.input e.geometry (Some wanted)
+given_for e Guard wanted = given_of e.service e.input e.space None
+given_for e Take wanted = given_of e.service e.input e.space None
+given_for e Send wanted = given_of e.service e.input e.space None
+given_for e Done wanted = given_of e.service e.input e.space None
+given_for e phase wanted = given_of e.service e.input e.space (Some wanted)
 
 -- the act leads to a place where the gate is right, and the case of its phase stands; or to the end
 pub data LeadsWell (e : Errand) (phase : Phase) (w : Walk) (words : List ℕ) (asked : ℕ) (to : Place) : Type 0 where

@@ -1,27 +1,24 @@
 -- A second pass that halts has read its notes, and is the one by the numbers that they tell.
-use Rattle.std.proofs.Common.{◌≡◌, ℕ, zero, suc, ◌+◌, ◌<◌, ◌⊎◌, inl, inr, Bool, true, false, Option, Some, None, ap, sym, ◌∙◌, arith, refl, subst}
+use Rattle.std.proofs.Common.{◌≡◌, ℕ, zero, suc, ◌<◌, ◌⊎◌, inl, inr, Bool, true, false, Option, Some, None, ap, sym, ◌∙◌, arith, refl, subst}
 use Rattle.std.specs.Prelude.{if◌then◌else◌, ◌==◌, nat_lt, slice_get}
 use Rattle.std.proofs.lemmas.Bool.{eqb-true, ltb-true, and_parts}
 use Rattle.sei_code.specs.Coded.{sealed, read_of, complement}
 use Rattle.sei_code.specs.declared.coded.Coded.{Coded}
 use Rattle.sei_log.specs.declared.notes.Notes.{Notes}
-use Rattle.sei_fault.specs.declared.cause.AbortCause.TheVariants.{Budget}
-use Rattle.sei_fault.specs.declared.cause.AbortCause.TheVariants.{Notes as NoNotes}
 use Rattle.sei_fault.specs.Tree.{honest, questions}
-use Rattle.sei_fault.specs.Tree.Tree.{Ask}
-use Rattle.sei_fault.specs.Question.Question.{Value}
 use Rattle.sei_stmt.specs.declared.stmt.Stmt.{Stmt}
-use Rattle.sei_stmt.specs.declared.stmt.Stmt.TheVariants.{Const, Move, Add, Sub, Input, Load, Store, Emit, Jump, JumpEq, JumpLt, Now, Alloc, Parse, Render, Halt}
+use Rattle.sei_stmt.specs.declared.stmt.Stmt.TheVariants.{Input, Emit, Now, Alloc, Parse, Render, Halt}
 use Rattle.sei_stmt.specs.Asked.{making, first_asked}
-use Rattle.sei_stmt.specs.Machine.{Machine, Setting, Outcome, After, register, ends, assign}
+use Rattle.sei_stmt.specs.Machine.{Machine, Setting, Outcome, After, register, one_made}
 use Rattle.sei_stmt.specs.Machine.Outcome.{Next, Halted, Bad}
 use Rattle.sei_stmt.specs.Passes.{notes_of}
 use Rattle.sei_stmt.specs.Slots.{is_admissible}
-use Rattle.sei_stmt.specs.Statements.{noted_value, noted_now, noted_slot_value, noted_slot, statement_tree, found_tree}
+use Rattle.sei_stmt.specs.Statements.{noted_value, noted_now, fit_if, noted_slot_value, noted_slot, statement_tree, count_if, found_tree, step_tree}
 use Rattle.sei_stmt.specs.Honest.{after, onward, onward_from, asked_in, HonestRun}
 use Rattle.sei_stmt.specs.Order.{only, stage_behind, stage_behind_found, stage_onward, stage_after}
 use Rattle.sei_stmt.proofs.HonestLaws.{halts_or_aborts}
 use Rattle.sei_stmt.proofs.Relog.{IsGoing}
+use Rattle.sei_stmt.proofs.PublicStatementRuns.{by_statements}
 use Rattle.sei_traverse.specs.Comes.{again, renoted, renoted_end}
 use Rattle.sei_traverse.proofs.NoteLaws.{Kind, kind, read_sealed}
 use Rattle.sei_traverse.proofs.NoteLaws.Kind.{Timing, Slotting, Plain}
@@ -98,8 +95,8 @@ time_noted k i m to time (Some c) says going =
     (time_read k i m to time (read_of c) (λ v e. says c v refl e) going)
 
 slot_tested : (k : Notes) (i : ℕ) (m : Machine) (to slot : ℕ) (fit : Bool) →
-    Alike k m (honest (if fit then Ask (Value slot) (λ v. assign i m to v) else ends m (Bad NoNotes)))
-    (honest (if fit then Ask (Value slot) (λ v. assign i (renoted k m) to v) else ends (renoted k m) (Bad NoNotes)))
+    Alike k m (honest (fit_if fit i m to slot))
+    (honest (fit_if fit i (renoted k m) to slot))
 slot_tested k i m to slot true = record { ended = refl; left = refl }
 slot_tested k i m to slot false = record { ended = refl; left = refl }
 
@@ -132,23 +129,15 @@ module _ (g : Setting) (time slot : ℕ) where
       (sym is) (λ h. slot_noted (again g) (notes_of time slot) i m to (register m moment) slot m.notes.slot free h) going
   alike_kind i m s now free (Plain r) going = record { ended = r.ended; left = r.left }
 
-  alike_counted : (i : ℕ) (m : Machine) (s : Stmt) (enough : Bool) → Says m.notes.now time → Says m.notes.slot slot →
-      IsGoing (honest (if enough then statement_tree (again g) i (record m { made = m.made + 1 }) s else ends m (Bad Budget))).outcome →
-      Alike (notes_of time slot) m (honest (if enough then statement_tree (again g) i (record m { made = m.made + 1 }) s else ends m (Bad Budget)))
-      (honest (if enough then statement_tree (again g) i (record (renoted (notes_of time slot) m) { made = m.made + 1 }) s else ends (renoted (notes_of time slot) m) (Bad Budget)))
-  alike_counted i m s true now free going =
-      let r = alike_kind i (record m { made = m.made + 1 }) s now free (kind (again g) (notes_of time slot) i (record m { made = m.made + 1 }) s) going in
-      record { ended = r.ended; left = r.left }
-  alike_counted i m s false now free going = absurd going
-
-  alike_found : (i : ℕ) (m : Machine) (o : Option Stmt) → Says m.notes.now time → Says m.notes.slot slot → IsGoing (honest (found_tree (again g) i m o)).outcome →
-      Alike (notes_of time slot) m (honest (found_tree (again g) i m o)) (honest (found_tree (again g) i (renoted (notes_of time slot) m) o))
-  alike_found i m None now free going = absurd going
-  alike_found i m (Some s) now free going = alike_counted i m s (nat_lt m.made g.budget) now free going
+  alike_step : (i : ℕ) (m : Machine) → Says m.notes.now time → Says m.notes.slot slot → IsGoing (honest (step_tree (again g) i m)).outcome →
+      Alike (notes_of time slot) m (honest (step_tree (again g) i m)) (honest (step_tree (again g) i (renoted (notes_of time slot) m)))
+  alike_step i m now free =
+      by_statements true g.now (λ log. log) (λ notes. notes_of time slot) (again g) i m (λ a b. IsGoing (honest a).outcome → Alike (notes_of time slot) m (honest a) (honest b)) (λ cause going. absurd going)
+      (λ s is going. let r = alike_kind i (one_made m) s now free (kind (again g) (notes_of time slot) i (one_made m) s) going in record { ended = r.ended; left = r.left })
 
   alike_onward : (m : Machine) (o : Outcome) → Says m.notes.now time → Says m.notes.slot slot → IsGoing (onward_from (again g) m o).outcome →
       Alike (notes_of time slot) m (onward_from (again g) m o) (onward_from (again g) (renoted (notes_of time slot) m) o)
-  alike_onward m (Next i) now free going = alike_found i m (slice_get g.statements i) now free going
+  alike_onward m (Next i) now free going = alike_step i m now free going
   alike_onward m Halted now free going = record { ended = refl; left = refl }
   alike_onward m (Bad cause) now free going = absurd going
 
@@ -184,18 +173,13 @@ asked_kinds g k i m s (Plain r) (Timing to is) = subst (λ s. questions (stateme
 asked_kinds g k i m s (Plain r) (Slotting to moment is) = subst (λ s. questions (statement_tree (making g) i m s) ≡ questions (statement_tree (making g) i (renoted k m) s)) (sym is) refl
 asked_kinds g k i m s (Plain r) (Plain q) = sym r.asked ∙ q.asked
 
-asked_counted : (g : Setting) (k : Notes) (i : ℕ) (m : Machine) (s : Stmt) (enough : Bool) →
-    questions (if enough then statement_tree (making g) i (record m { made = m.made + 1 }) s else ends m (Bad Budget))
-    ≡ questions (if enough then statement_tree (making g) i (record (renoted k m) { made = m.made + 1 }) s else ends (renoted k m) (Bad Budget))
-asked_counted g k i m s true = asked_kinds g k i (record m { made = m.made + 1 }) s (kind (making g) k i _ s) (kind (making g) k i _ s)
-asked_counted g k i m s false = refl
-
-asked_found : (g : Setting) (k : Notes) (i : ℕ) (m : Machine) (o : Option Stmt) → questions (found_tree (making g) i m o) ≡ questions (found_tree (making g) i (renoted k m) o)
-asked_found g k i m None = refl
-asked_found g k i m (Some s) = asked_counted g k i m s (nat_lt m.made g.budget)
+asked_step : (g : Setting) (k : Notes) (i : ℕ) (m : Machine) → questions (step_tree (making g) i m) ≡ questions (step_tree (making g) i (renoted k m))
+asked_step g k i m =
+    by_statements false g.now (λ log. log) (λ notes. k) (making g) i m (λ a b. questions a ≡ questions b) (λ cause. refl)
+    (λ s is. asked_kinds g k i (one_made m) s (kind (making g) k i _ s) (kind (making g) k i _ s))
 
 asked_alike : (g : Setting) (k : Notes) (m : Machine) (o : Outcome) → asked_in (making g) m o ≡ asked_in (making g) (renoted k m) o
-asked_alike g k m (Next i) = asked_found g k i m (slice_get g.statements i)
+asked_alike g k m (Next i) = asked_step g k i m
 asked_alike g k m Halted = refl
 asked_alike g k m (Bad cause) = refl
 
@@ -220,8 +204,8 @@ now_note i m to (Some c) silent going = now_value i m to (read_of c) (λ v e. si
 
 -- a second pass whose noted time says nothing aborts where it takes the time
 now_counted : (g : Setting) (i : ℕ) (m : Machine) (to : ℕ) (enough : Bool) → SaysNothing m.notes.now →
-    IsGoing (honest (if enough then statement_tree (again g) i (record m { made = m.made + 1 }) (Now to) else ends m (Bad Budget))).outcome → ⊥
-now_counted g i m to true silent going = now_note i (record m { made = m.made + 1 }) to m.notes.now silent going
+    IsGoing (honest (count_if enough (again g) i m (Now to))).outcome → ⊥
+now_counted g i m to true silent going = now_note i (one_made m) to m.notes.now silent going
 now_counted g i m to false silent going = going
 
 only_right : (b : Bool) (n s : ℕ) → only b n ≡ Some s → (b ≡ true) × (n ≡ s)
@@ -230,22 +214,14 @@ only_right false n s e = absurd cc
 
 -- no statement but Now leads behind the stage of the call
 untimed_behind : (stage next : ℕ) (s : Stmt) → stage < 2 → ((to : ℕ) → s ≡ Now to → ⊥) → stage_behind stage s ≡ Some next → next < 2
-untimed_behind stage next (Const to number) lt never e = let same : stage ≡ next = cc in omega (arith, same, lt)
-untimed_behind stage next (Move to from) lt never e = let same : stage ≡ next = cc in omega (arith, same, lt)
-untimed_behind stage next (Add to left right) lt never e = let same : stage ≡ next = cc in omega (arith, same, lt)
-untimed_behind stage next (Sub to left right) lt never e = let same : stage ≡ next = cc in omega (arith, same, lt)
 untimed_behind stage next (Input to index) lt never e = omega (arith, (only_right _ _ _ e).1, lt)
-untimed_behind stage next (Load to address) lt never e = let same : stage ≡ next = cc in omega (arith, same, lt)
-untimed_behind stage next (Store address from) lt never e = let same : stage ≡ next = cc in omega (arith, same, lt)
 untimed_behind stage next (Emit from) lt never e = omega (arith, (only_right _ _ _ e).1, lt)
-untimed_behind stage next (Jump offset) lt never e = let same : stage ≡ next = cc in omega (arith, same, lt)
-untimed_behind stage next (JumpEq left right offset) lt never e = let same : stage ≡ next = cc in omega (arith, same, lt)
-untimed_behind stage next (JumpLt left right offset) lt never e = let same : stage ≡ next = cc in omega (arith, same, lt)
 untimed_behind stage next (Now to) lt never e = absurd (never to refl)
 untimed_behind stage next (Alloc to moment) lt never e = absurd (omega (arith, eqb-true stage 2 (only_right _ _ _ e).0, lt))
 untimed_behind stage next Parse lt never e = omega (arith, (only_right _ _ _ e).1)
 untimed_behind stage next Render lt never e = absurd (omega (arith, ltb-true 1 stage (and_parts _ _ (only_right _ _ _ e).0).0, lt))
 untimed_behind stage next Halt lt never e = absurd (omega (arith, eqb-true stage 4 (only_right _ _ _ e).0, lt))
+untimed_behind stage next s lt never e = let same : stage ≡ next = cc in omega (arith, same, lt)
 
 untimed_found : (stage next : ℕ) (o : Option Stmt) → stage < 2 → ((to : ℕ) → o ≡ Some (Now to) → ⊥) → stage_behind_found stage o ≡ Some next → next < 2
 untimed_found stage next None lt never e = absurd cc

@@ -4,13 +4,11 @@ use Rattle.sei_fault.specs.declared.place.Phase.{Phase}
 use Rattle.sei_fault.specs.declared.place.Phase.TheVariants.{Guard, Take, First, Restore, Second, Compare, Verify, Enter, Give, Send, Done}
 use Rattle.sei_stmt.specs.Machine.{Machine, After}
 use Rattle.sei_stmt.specs.Honest.{after}
-use Rattle.sei_pass.specs.State.{budget_of}
 use Rattle.sei_traverse.specs.declared.turned.Want.{Want}
 use Rattle.sei_traverse.specs.declared.walk.Walk.{Walk}
 use Rattle.sei_traverse.specs.Comes.{at_time}
 use Rattle.sei_traverse.specs.Errand.{Errand, IsErrand, Whole, first_setting, first_start}
 use Rattle.sei_traverse.specs.Unstruck.{IsOf, FirstIsNew, SecondIsNew, FirstIsDone, SecondIsDone, before_enter, FirstAt, InBoth, HasOutput, CleanIn, IsFinished}
-use Rattle.sei_traverse.specs.Walks.{log_room}
 use Rattle.sei_traverse.proofs.LogLaws.{room_kept}
 use Rattle.sei_traverse.proofs.TimeLaws.{ends_so}
 
@@ -37,7 +35,7 @@ second_done e w n end x = record { second = x.second; second_log = x.second_log 
 
 first_at : (e : Errand) (w : Walk) (n : Want) (lent : Option (List ℕ)) (s t asked : ℕ) → s ≤ t → FirstAt e w lent t asked → FirstAt e (wanting w n) lent s asked
 first_at e w n None s t asked le x = record { index = x.index; first = first_new e w n x.first; number = omega (arith, le, x.number); questions = x.questions }
-first_at e w n (Some words) s t asked le x = record { geometry = x.geometry; made = x.made; comes = x.comes; told = x.told; number = omega (arith, le, x.number) }
+first_at e w n (Some words) s t asked le x = record { space = x.space; made = x.made; comes = x.comes; told = x.told; number = omega (arith, le, x.number) }
 
 in_both : (e : Errand) (w : Walk) (n : Want) (lent : Option (List ℕ)) (time made : ℕ) (end : Machine) (asked : ℕ) → InBoth e w lent time made end asked →
     InBoth e (wanting w n) lent time made end asked
@@ -92,7 +90,7 @@ settles e w n lent s t asked Second le c = record {
   end = c.end;
   whole = c.whole;
   first = first_done e w n c.end c.first;
-  geometry = c.geometry;
+  space = c.space;
   words = c.words;
   lent_are = c.lent_are;
   n = c.n;
@@ -175,37 +173,37 @@ settles_end e w n s t asked le x = record {
 -- How many steps there are.
 
 -- the log of a whole first pass fits into its room
-pub whole_logs : (e : Errand) (time made : ℕ) (end : Machine) → Whole e time made end → length end.log.items ≤ log_room e.geometry
+pub whole_logs : (e : Errand) (time made : ℕ) (end : Machine) → Whole e time made end → length end.log.items ≤ e.space.log
 whole_logs e time made end whole =
     let g = at_time (first_setting e) time in
     let rooms = room_kept g (first_start e) made in
     let fits : length (after g (first_start e) made).machine.log.items ≤ (after g (first_start e) made).machine.log.room = rooms.log_fits (omega arith) in
-    let below : length (after g (first_start e) made).machine.log.items ≤ log_room e.geometry =
+    let below : length (after g (first_start e) made).machine.log.items ≤ e.space.log =
     subst (λ (room : ℕ). length (after g (first_start e) made).machine.log.items ≤ room) rooms.log fits in
-    subst (λ (x : After). length x.machine.log.items ≤ log_room e.geometry) whole.run.halts below
+    subst (λ (x : After). length x.machine.log.items ≤ e.space.log) whole.run.halts below
 
 -- a number of steps up to the end is within the bound, where the first pass is whole
 at_most : (e : Errand) (time made : ℕ) (end : Machine) (s : ℕ) → Whole e time made end → s ≤ before_enter made (length end.log.items) + 4 →
-    s ≤ 2 * budget_of e.geometry + 3 * log_room e.geometry + 11
+    s ≤ 2 * e.space.budget + 3 * e.space.log + 11
 at_most e time made end s whole h =
-    let within : made < budget_of e.geometry = whole.within in
+    let within : made < e.space.budget = whole.within in
     let logs = whole_logs e time made end whole in
-    sums s made (length end.log.items) (budget_of e.geometry) (log_room e.geometry) within logs h
+    sums s made (length end.log.items) e.space.budget e.space.log within logs h
   where
     sums : (s made k budget room : ℕ) → made < budget → k ≤ room → s ≤ before_enter made k + 4 → s ≤ 2 * budget + 3 * room + 11
     sums s made k budget room within logs h = omega (arith, within, logs, h)
 
 bounded_first : (e : Errand) → IsErrand e → (w : Walk) (lent : Option (List ℕ)) (s asked : ℕ) → FirstAt e w lent s asked →
-    s ≤ 2 * budget_of e.geometry + 3 * log_room e.geometry + 11
+    s ≤ 2 * e.space.budget + 3 * e.space.log + 11
 bounded_first e is w None s asked x = omega (arith, x.number)
 bounded_first e is w (Some words) s asked x =
     let made : ℕ = x.made in
-    let within : made < budget_of e.geometry = (ends_so (first_setting e) (first_start e) is.ends made asked _ x.comes).within w.place.index refl in
+    let within : made < e.space.budget = (ends_so (first_setting e) (first_start e) is.ends made asked _ x.comes).within w.place.index refl in
     omega (arith, within, x.number)
 
 -- a traversal that nothing struck stands nowhere behind so many steps
 pub bounded : (e : Errand) → IsErrand e → (w : Walk) (lent : Option (List ℕ)) (s asked : ℕ) (p : Phase) → CleanIn e w lent s asked p →
-    s ≤ 2 * budget_of e.geometry + 3 * log_room e.geometry + 11
+    s ≤ 2 * e.space.budget + 3 * e.space.log + 11
 bounded e is w lent s asked Guard c = omega (arith, c.number)
 bounded e is w lent s asked Take c = omega (arith, c.number, c.index)
 bounded e is w lent s asked First c = bounded_first e is w lent s asked c.at
@@ -219,7 +217,7 @@ bounded e is w lent s asked Send c = at_most e c.time c.made c.end s c.answered.
 bounded e is w lent s asked Done c = at_most e c.time c.made c.end s c.answered.whole (omega (arith, c.number))
 
 -- and it has ended after so many
-pub bounded_end : (e : Errand) (w : Walk) (s asked : ℕ) → IsFinished e w s asked → s ≤ 2 * budget_of e.geometry + 3 * log_room e.geometry + 11
+pub bounded_end : (e : Errand) (w : Walk) (s asked : ℕ) → IsFinished e w s asked → s ≤ 2 * e.space.budget + 3 * e.space.log + 11
 bounded_end e w s asked x = at_most e x.time x.made x.end s x.answered.whole x.number
 
 -- What was asked.

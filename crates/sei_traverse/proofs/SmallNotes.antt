@@ -9,13 +9,12 @@ use Rattle.sei_fault.specs.StruckRuns.{StruckRun}
 use Rattle.sei_fault.specs.Tree.{honest}
 use Rattle.sei_fault.proofs.Runs.{always_honest}
 use Rattle.sei_fault.proofs.StruckRuns.{always_struck}
-use Rattle.std.specs.Prelude.{slice_get}
 use Rattle.sei_traverse.specs.Comes.{at_time, Agrees}
 use Rattle.sei_traverse.specs.Errand.{Errand, first_setting, first_start, Whole}
 use Rattle.sei_traverse.specs.Noting.{NotesTime}
 use Rattle.sei_traverse.specs.Noting.NotesTime.{Same, Noted}
 use Rattle.sei_traverse.specs.Struck.{NotesSmall}
-use Rattle.sei_traverse.proofs.NotingLaws.{notes_found}
+use Rattle.sei_traverse.proofs.NotingLaws.{notes_step}
 use Rattle.sei_traverse.proofs.TimeLaws.{agrees_behind}
 
 -- one that a time of the clock agrees with
@@ -50,9 +49,9 @@ module _ (g : Setting) (now : ℕ) (small : now < 2 ^ 64) (i : ℕ) (m : Machine
   pub small_honest : NotesSmall (honest (step_tree (at_time g now) i m)).machine.notes.now
   small_honest =
       small_behind m.notes.now (honest (step_tree (at_time g now) i m)).machine.notes.now now small
-      (always_honest (λ (x : After). NotesTime (Some now) m.notes.now x.machine.notes.now) (step_tree (at_time g now) i m) (notes_found (Some now) (at_time g now) i m (slice_get g.statements i) refl)) h
+      (always_honest (λ (x : After). NotesTime (Some now) m.notes.now x.machine.notes.now) (step_tree (at_time g now) i m) (notes_step (Some now) (at_time g now) i m refl)) h
 
   pub small_struck : (x : After) (k : ℕ) → StruckRun (step_tree (at_time g now) i m) x k → NotesSmall x.machine.notes.now
   small_struck x k s =
       small_behind m.notes.now x.machine.notes.now now small
-      (always_struck (λ (x : After). NotesTime (Some now) m.notes.now x.machine.notes.now) (step_tree (at_time g now) i m) x k (notes_found (Some now) (at_time g now) i m (slice_get g.statements i) refl) s) h
+      (always_struck (λ (x : After). NotesTime (Some now) m.notes.now x.machine.notes.now) (step_tree (at_time g now) i m) x k (notes_step (Some now) (at_time g now) i m refl) s) h

@@ -144,7 +144,7 @@ closing_same Done w v l = refl
 pub once_like : (e : Errand) (before : ℕ) (w v : Walk) (E F : Type 0) → IsLike w v → v.gate.done ≡ w.gate.done → v.want ≡ w.want → (E → F) → ClosesNext e before w E → ClosesNext e before v F
 once_like e before w v E F l gate want f (Stays at none) = Stays (gate ∙ at) (want ∙ none)
 once_like e before w v E F l gate want f (Closes phase is at wants) = Closes phase is (gate ∙ at) (want ∙ wants ∙ sym (closing_same phase w v l))
-once_like e before w v E F l gate want f (Lacks is at none lacks ended) = Lacks is (gate ∙ at) (want ∙ none) (subst (λ (n : ℕ). e.geometry.buckets ≤ n) (sym l.wanted) lacks) (f ended)
+once_like e before w v E F l gate want f (Lacks is at none lacks ended) = Lacks is (gate ∙ at) (want ∙ none) (subst (λ (n : ℕ). e.space.geometry.buckets ≤ n) (sym l.wanted) lacks) (f ended)
 
 pub nothing_wanted : (e : Errand) (lent : Option (List ℕ)) (asked : ℕ) (w : Walk) → w.want ≡ Nothing → Wanted e w lent asked w.want
 nothing_wanted e lent asked w none = subst (λ n. Wanted e w lent asked n) (sym none) tt

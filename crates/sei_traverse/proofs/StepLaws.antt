@@ -85,11 +85,11 @@ pub record LendsRight (e : Errand) (p : Phase) (wanted : ℕ) (loan : Option Buc
 none_right : (e : Errand) (p : Phase) (wanted : ℕ) (loan : Option BucketWords) → loan ≡ None → given_for e p wanted ≡ given_with e None → ((words : List ℕ) → None ≡ lent_in p words) → LendsRight e p wanted loan
 none_right e p wanted loan h given left = subst (LendsRight e p wanted) (sym h) (record { given = given; left = left })
 
-bucket_right : (e : Errand) (p : Phase) (wanted : ℕ) (loan : Option BucketWords) → LendsBucketOf wanted loan → given_for e p wanted ≡ given_of e.service e.input e.geometry (Some wanted) →
+bucket_right : (e : Errand) (p : Phase) (wanted : ℕ) (loan : Option BucketWords) → LendsBucketOf wanted loan → given_for e p wanted ≡ given_of e.service e.input e.space (Some wanted) →
     ((words : List ℕ) → lent_in p words ≡ Some words) → LendsRight e p wanted loan
 bucket_right e p wanted None h given left = absurd h
 bucket_right e p wanted (Some b) h given left =
-    record { given = given ∙ ap (λ (n : ℕ). given_of e.service e.input e.geometry (Some n)) (sym h); left = λ words. sym (left words) }
+    record { given = given ∙ ap (λ (n : ℕ). given_of e.service e.input e.space (Some n)) (sym h); left = λ words. sym (left words) }
 
 pub lends_right : (e : Errand) (p : Phase) (wanted : ℕ) (loan : Option BucketWords) → LendsIn wanted p loan → LendsRight e p wanted loan
 lends_right e Guard wanted loan h = none_right e Guard wanted loan h refl (λ words. refl)

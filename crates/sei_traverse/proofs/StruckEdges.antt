@@ -145,41 +145,41 @@ take_at e w v first first_log notes second second_log s = record {
   second = record { second = second ∙ s.second.second; second_log = second_log ∙ s.second.second_log };
 }
 
-module _ (e : Errand) (g : Given) (geometry : g.geometry ≡ e.geometry) (w : Walk) (words : List ℕ) (more : ℕ) (nothing : w.want ≡ Nothing) (gate : w.gate.done ≡ 1) (s : StruckInTake e w) where
+module _ (e : Errand) (g : Given) (space : g.space ≡ e.space) (w : Walk) (words : List ℕ) (more : ℕ) (nothing : w.want ≡ Nothing) (gate : w.gate.done ≡ 1) (s : StruckInTake e w) where
   -- whatever bucket is stored
   take_stores : (wanted : ℕ) → ActsWell e Take more (acted (record w { wanted = wanted }) words (Leads (at Take 1)))
   take_stores wanted = leads_well e Take more (record w { wanted = wanted }) words (at Take 1) nothing gate
       (Onward gate (take_at e w (record w { wanted = wanted; place = at Take 1 }) refl refl refl refl refl s))
 
   -- a wanted bucket is there
-  take_leads : nat_lt w.wanted g.geometry.buckets ≡ true → ActsWell e Take more (acted (record (closed_walk w) { want = WantTake w.wanted }) words (Leads (at First 0)))
+  take_leads : nat_lt w.wanted g.space.geometry.buckets ≡ true → ActsWell e Take more (acted (record (closed_walk w) { want = WantTake w.wanted }) words (Leads (at First 0)))
   take_leads below =
       closes_well e Take more (record (closed_walk w) { want = WantTake w.wanted }) words (at First 0) (ap risen gate) refl
-      (refl, subst (λ x. w.wanted < x.buckets) geometry (ltb-true w.wanted g.geometry.buckets below))
+      (refl, subst (λ x. w.wanted < x.geometry.buckets) space (ltb-true w.wanted g.space.geometry.buckets below))
       (Onward (ap risen gate) (record {
-        geometry = ap (λ (p : PassState). p.geometry) s.first.first;
+        space = ap (λ (p : PassState). p.space) s.first.first;
         second = record { second = s.second.second; second_log = s.second.second_log };
         stands = record { first = s.first.first; first_log = s.first.first_log; notes = s.first.notes };
       }))
 
   -- one that is not ends it
-  take_lacks : nat_lt w.wanted g.geometry.buckets ≡ false → ActsWell e Take more (acted (closed_walk w) words (Aborts (Range w.wanted)))
+  take_lacks : nat_lt w.wanted g.space.geometry.buckets ≡ false → ActsWell e Take more (acted (closed_walk w) words (Aborts (Range w.wanted)))
   take_lacks past = record {
     wants = subst (λ (x : Want). Wanted e (closed_walk w) None more x) (sym nothing) tt;
-    once = Lacks refl (ap risen gate) nothing (subst (λ x. x.buckets ≤ w.wanted) geometry (ltb-false w.wanted g.geometry.buckets past)) refl;
+    once = Lacks refl (ap risen gate) nothing (subst (λ x. x.geometry.buckets ≤ w.wanted) space (ltb-false w.wanted g.space.geometry.buckets past)) refl;
     ends = tt;
   }
 
-  take_tested : (b : Bool) → nat_lt w.wanted g.geometry.buckets ≡ b →
+  take_tested : (b : Bool) → nat_lt w.wanted g.space.geometry.buckets ≡ b →
       Always (ActsWell e Take more) (if b then ends (record (closed_walk w) { want = WantTake w.wanted }) words (Leads (at First 0)) else ends (closed_walk w) words (Aborts (Range w.wanted)))
   take_tested true below = take_leads below
   take_tested false below = take_lacks below
 
-  take_closes : Always (ActsWell e Take more) (closing_then Take w words (take_wanted g.geometry words))
-  take_closes = always_closes (ActsWell e Take more) Take w words (take_wanted g.geometry words) (take_tested (nat_lt w.wanted g.geometry.buckets) refl)
+  take_closes : Always (ActsWell e Take more) (closing_then Take w words (take_wanted g.space.geometry words))
+  take_closes = always_closes (ActsWell e Take more) Take w words (take_wanted g.space.geometry words) (take_tested (nat_lt w.wanted g.space.geometry.buckets) refl)
       (aborts_well e Take more w words (Gate w.gate.done) nothing gate)
 
-  take_by : (b : Bool) → Always (ActsWell e Take more) (if b then store_wanted g w words else closing_then Take w words (take_wanted g.geometry words))
+  take_by : (b : Bool) → Always (ActsWell e Take more) (if b then store_wanted g w words else closing_then Take w words (take_wanted g.space.geometry words))
   take_by true = λ bucket wanted. take_stores wanted
   take_by false = take_closes
 

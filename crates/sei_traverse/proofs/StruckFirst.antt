@@ -1,7 +1,7 @@
 -- The acts of the first pass under one strike, and behind one.
 use Rattle.std.proofs.Common.{◌≡◌, ◌⊎◌, inl, inr, ℕ, suc, ◌+◌, ◌-◌, ◌^◌, ◌<◌, ◌≤◌, Bool, true, false, List, [], ◌∷◌, ◌++◌, length, length-append, take, slice_get, slice_set, Option, Some, None, ap, sym, ◌∙◌, arith, refl, subst}
 use Rattle.std.specs.Prelude.{◌==◌, if◌then◌else◌}
-use Rattle.mc_model.specs.declared.geometry.Geometry.{Geometry}
+use Rattle.sei_pass.specs.declared.spaces.PassSpace.{PassSpace}
 use Rattle.sei_code.specs.Kept.{Kept, pushed}
 use Rattle.sei_fault.specs.declared.cause.AbortCause.TheVariants.{Range}
 use Rattle.sei_fault.specs.declared.place.Phase.TheVariants.{First, Restore}
@@ -12,13 +12,13 @@ use Rattle.sei_fault.proofs.Bound.{honest_bound, questions_bound}
 use Rattle.sei_fault.proofs.StruckRuns.{StruckBound, struck_bound}
 use Rattle.sei_fault.proofs.StruckRuns.StruckBound.{Before, Behind}
 use Rattle.sei_gate.specs.Closing.{risen}
-use Rattle.sei_log.specs.Changes.{undone, applied, SameOff}
+use Rattle.sei_log.specs.Changes.{change_of, undone, applied, SameOff}
 use Rattle.sei_log.specs.declared.log.Change.{Change}
 use Rattle.sei_log.proofs.ChangeLaws.{set_same, set_set, undone_push, applied_push, same_push, take_whole}
-use Rattle.sei_stmt.specs.Machine.{Machine, Setting, Outcome, After}
+use Rattle.sei_stmt.specs.Machine.{Machine, Setting, Outcome, After, with_words, one_made, stored, at_outcome}
 use Rattle.sei_stmt.specs.Machine.Outcome.{Next, Halted, Bad}
-use Rattle.sei_stmt.specs.Statements.{stored, step_tree}
-use Rattle.sei_stmt.proofs.Effects.{change, at_outcome, one_made, Effect, HonestEffect, StruckEffect, honest_effect, keeps_honest, struck_effect}
+use Rattle.sei_stmt.specs.Statements.{step_tree}
+use Rattle.sei_stmt.proofs.Effects.{Effect, HonestEffect, StruckEffect, honest_effect, keeps_honest, struck_effect}
 use Rattle.sei_stmt.proofs.Effects.Effect.{Untouched, Wrote}
 use Rattle.sei_stmt.proofs.Effects.HonestEffect.{Left, Changed}
 use Rattle.sei_stmt.proofs.Effects.StruckEffect.{Plain, Wrong}
@@ -54,16 +54,16 @@ use Rattle.sei_traverse.proofs.TimeLaws.{within_clock, agrees_on, comes_on, goes
 -- What an effect keeps.
 
 -- a store is undone by what it logs
-undone_store : (log : List Change) (words : List ℕ) (a was v w : ℕ) → slice_get words a ≡ Some was → undone (log ++ change a was v ∷ []) (slice_set words a w) ≡ undone log words
+undone_store : (log : List Change) (words : List ℕ) (a was v w : ℕ) → slice_get words a ≡ Some was → undone (log ++ change_of a was v ∷ []) (slice_set words a w) ≡ undone log words
 undone_store log words a was v w stood =
-    undone_push log (change a was v) (slice_set words a w) ∙ ap (undone log) (set_set words a w was ∙ set_same words a was stood)
+    undone_push log (change_of a was v) (slice_set words a w) ∙ ap (undone log) (set_set words a w was ∙ set_same words a was stood)
 
 -- whatever is answered, what was undone by the log still is
 effect_undone : (taken : List ℕ) (m y : Machine) → Effect m y → undone m.log.items m.words ≡ taken → undone y.log.items y.words ≡ taken
 effect_undone taken m y (Untouched words log) u = ap (λ (k : Kept Change). undone k.items y.words) log ∙ ap (undone m.log.items) words ∙ u
 effect_undone taken m y (Wrote a was v w stood words log) u =
     ap (λ (k : Kept Change). undone k.items y.words) log
-    ∙ ap (undone (m.log.items ++ change a was v ∷ [])) words
+    ∙ ap (undone (m.log.items ++ change_of a was v ∷ [])) words
     ∙ undone_store m.log.items m.words a was v w stood
     ∙ u
 
@@ -73,14 +73,14 @@ effect_off taken m y (Untouched words log) s =
     subst (λ (k : Kept Change). SameOff k.items y.words taken) (sym log) (subst (λ (ws : List ℕ). SameOff m.log.items ws taken) (sym words) s)
 effect_off taken m y (Wrote a was v w stood words log) s =
     subst (λ (k : Kept Change). SameOff k.items y.words taken) (sym log)
-    (subst (λ (ws : List ℕ). SameOff (m.log.items ++ change a was v ∷ []) ws taken) (sym words) (same_push m.log.items (change a was v) m.words taken w s))
+    (subst (λ (ws : List ℕ). SameOff (m.log.items ++ change_of a was v ∷ []) ws taken) (sym words) (same_push m.log.items (change_of a was v) m.words taken w s))
 
 -- an honest log leads to the words
 honest_applied : (taken : List ℕ) (m y : Machine) → HonestEffect m y → applied m.log.items taken ≡ m.words → applied y.log.items taken ≡ y.words
 honest_applied taken m y (Left words log) u = ap (λ (k : Kept Change). applied k.items taken) log ∙ u ∙ sym words
 honest_applied taken m y (Changed a was v stood other words log) u =
     ap (λ (k : Kept Change). applied k.items taken) log
-    ∙ applied_push m.log.items (change a was v) taken
+    ∙ applied_push m.log.items (change_of a was v) taken
     ∙ ap (λ (ws : List ℕ). slice_set ws a v) u
     ∙ sym words
 
@@ -161,11 +161,11 @@ stepped w m index = record (with_first w m) { place = at First index }
 abbrev halted : Walk → Machine → Walk
 halted w m = record (closed (with_first w m)) { place = at Restore 0 }
 
-module _ (e : Errand) (w : Walk) (nothing : w.want ≡ Nothing) (gate : w.gate.done ≡ phase_number First) (geometry : w.first.geometry ≡ e.geometry) (second : SecondIsNew e w) (m : Machine) (asked : ℕ) where
+module _ (e : Errand) (w : Walk) (nothing : w.want ≡ Nothing) (gate : w.gate.done ≡ phase_number First) (space : w.first.space ≡ e.space) (second : SecondIsNew e w) (m : Machine) (asked : ℕ) where
   leads_on : (index : ℕ) → FirstStruck e (stepped w m index) m.words asked → ActsWell e First asked (acted (with_first w m) m.words (Leads (at First index)))
   leads_on index s =
       wants_nothing e asked (acted (with_first w m) m.words (Leads (at First index))) nothing (Stays gate nothing)
-      (Onward gate (record { geometry = geometry; second = record { second = second.second; second_log = second.second_log }; stands = s }))
+      (Onward gate (record { space = space; second = record { second = second.second; second_log = second.second_log }; stands = s }))
 
   leads_behind : RestoreStruck e (halted w m) m.words asked → ActsWell e First asked (acted (closed (with_first w m)) m.words (Leads (at Restore 0)))
   leads_behind s =
@@ -196,13 +196,13 @@ closed_asks_no_more : (w : Walk) (words : List ℕ) (b : Bool) (done : ℕ) (y :
 closed_asks_no_more w words true done y n s = s
 closed_asks_no_more w words false done y n s = s
 
-module _ (e : Errand) (w : Walk) (nothing : w.want ≡ Nothing) (gate : w.gate.done ≡ phase_number First) (geometry : w.first.geometry ≡ e.geometry) (second : SecondIsNew e w) (m : Machine) (asked : ℕ) (small : NotesSmall m.notes.now) (u : undone m.log.items m.words ≡ e.taken) where
+module _ (e : Errand) (w : Walk) (nothing : w.want ≡ Nothing) (gate : w.gate.done ≡ phase_number First) (space : w.first.space ≡ e.space) (second : SecondIsNew e w) (m : Machine) (asked : ℕ) (small : NotesSmall m.notes.now) (u : undone m.log.items m.words ≡ e.taken) where
   -- a strike behind the statement falls on the closing test
   struck_behind : (o : Outcome) (y : Acted) (n : ℕ) → StruckRun (first_from (with_first w m) m.words o) y n → ActsWell e First asked y
   struck_behind (Next index) y n s = absurd s
   struck_behind Halted y n (inl h) =
       subst (λ (x : Acted). ActsWell e First asked x) (sym h.end)
-      (closed_so e w nothing gate geometry second m asked h.answer (StillUndoes small (all_pending m.log.items m.words e.taken u)))
+      (closed_so e w nothing gate space second m asked h.answer (StillUndoes small (all_pending m.log.items m.words e.taken u)))
   struck_behind Halted y n (inr (k, is, s)) = absurd (closed_asks_no_more (with_first w m) m.words (w.gate.done == 2) (if w.gate.done == 2 then risen w.gate.done else w.gate.done) y k s)
   struck_behind (Bad cause) y n s = absurd s
 
@@ -221,12 +221,12 @@ clean_small e w words steps asked r = small_agrees w.notes.now r.comes.time r.co
 
 pub first_moved : (e : Errand) (w : Walk) (lent : Option (List ℕ)) (steps asked index : ℕ) → InFirst e w lent steps asked → StruckInFirst e (record w { place = at First index }) lent asked
 first_moved e w None steps asked index h = record {
-  geometry = ap (λ (p : PassState). p.geometry) h.at.first.first;
+  space = ap (λ (p : PassState). p.space) h.at.first.first;
   second = record { second = h.second.second; second_log = h.second.second_log };
   stands = record { first = h.at.first.first; first_log = h.at.first.first_log; notes = h.at.first.notes };
 }
 first_moved e w (Some words) steps asked index h = record {
-  geometry = h.at.geometry;
+  space = h.at.space;
   second = record { second = h.second.second; second_log = h.second.second_log };
   stands = Undoes (clean_small e w words steps asked h.at) (clean_keeps e w words steps asked h.at).undo;
 }
@@ -235,13 +235,13 @@ first_moved e w (Some words) steps asked index h = record {
 given_step : (e : Errand) (now : ℕ) (w : Walk) (m : Machine) → w.sealed ≡ e.sealed → w.wanted ≡ e.call.bucket →
     step_tree (setting_in (given_for e First w.wanted) Making w.sealed now) w.place.index m ≡ first_step e now w.place.index m
 given_step e now w m sealed wanted =
-    ap (λ (s : Sealed). step_tree (setting_in (given_of e.service e.input e.geometry (Some w.wanted)) Making s now) w.place.index m) sealed
-    ∙ ap (λ (b : ℕ). step_tree (setting_in (given_of e.service e.input e.geometry (Some b)) Making e.sealed now) w.place.index m) wanted
+    ap (λ (s : Sealed). step_tree (setting_in (given_of e.service e.input e.space (Some w.wanted)) Making s now) w.place.index m) sealed
+    ∙ ap (λ (b : ℕ). step_tree (setting_in (given_of e.service e.input e.space (Some b)) Making e.sealed now) w.place.index m) wanted
 
 -- an old word was misread
 module _ (e : Errand) (w : Walk) (words : List ℕ) (aimed : IsAimed e w) (keep : Keeps e.taken w.first_log.items words) (a was v i n q asked : ℕ) (more : q ≤ asked) where
   abbrev misread_machine : Machine
-  misread_machine = stored (one_made (first_machine w words)) a was v v
+  misread_machine = stored (one_made (first_machine w words)) a (change_of a was v) v
 
   misread_by : (log : Kept Change) → log.room ≡ w.first_log.room → length log.items ≤ length w.first_log.items + 1 → Came e n q (at_outcome (relogged log misread_machine) (Next i)) →
       IsMisread e (stepped w misread_machine i) (slice_set words a v) asked
@@ -249,27 +249,27 @@ module _ (e : Errand) (w : Walk) (words : List ℕ) (aimed : IsAimed e w) (keep 
     aimed = record { fit = aimed.fit; wanted = aimed.wanted };
     log = log;
     room = room;
-    fewer = omega (arith, fewer, length-append w.first_log.items (change a was v ∷ []));
+    fewer = omega (arith, fewer, length-append w.first_log.items (change_of a was v ∷ []));
     made = n;
     number = q;
     comes = c.comes;
     told = c.told;
-    applies = applied_push w.first_log.items (change a was v) e.taken ∙ ap (λ (ws : List ℕ). slice_set ws a v) keep.apply;
-    off = same_push w.first_log.items (change a was v) words e.taken v keep.off;
+    applies = applied_push w.first_log.items (change_of a was v) e.taken ∙ ap (λ (ws : List ℕ). slice_set ws a v) keep.apply;
+    off = same_push w.first_log.items (change_of a was v) words e.taken v keep.off;
     questions = more;
   }
 
   -- it was taken for another one and stored, or taken for the same and not stored
   misread_so : (word : ℕ) (z : After) → slice_get words a ≡ Some word → Came e n q z →
-      ((word ≡ v) × (z ≡ at_outcome (one_made (first_machine w words)) (Next i))) ⊎ (z ≡ at_outcome (stored (one_made (first_machine w words)) a word v v) (Next i)) →
+      ((word ≡ v) × (z ≡ at_outcome (one_made (first_machine w words)) (Next i))) ⊎ (z ≡ at_outcome (stored (one_made (first_machine w words)) a (change_of a word v) v) (Next i)) →
       IsMisread e (stepped w misread_machine i) (slice_set words a v) asked
   misread_so word z stood c (inl (same, is)) =
       let unchanged : slice_set words a v ≡ words = set_same words a v (stood ∙ ap (λ (x : ℕ). let o : Option ℕ = Some x in o) same) in
       misread_by w.first_log refl (omega arith)
       (subst (λ (x : After). Came e n q x)
-      (is ∙ ap (λ (ws : List ℕ). at_outcome (record (one_made (first_machine w words)) { words = ws }) (Next i)) (sym unchanged)) c)
+      (is ∙ ap (λ (ws : List ℕ). at_outcome (with_words (one_made (first_machine w words)) ws) (Next i)) (sym unchanged)) c)
   misread_so word z stood c (inr is) =
-      misread_by (pushed w.first_log (change a word v)) refl (omega (arith, length-append w.first_log.items (change a word v ∷ [])))
+      misread_by (pushed w.first_log (change_of a word v)) refl (omega (arith, length-append w.first_log.items (change_of a word v ∷ [])))
       (subst (λ (x : After). Came e n q x) is c)
 
 module _ (e : Errand) (always : EndsAlways (first_setting e) (first_start e)) (now : ℕ) (small : now < 2 ^ 64) (told : Follows e.clock now) (w : Walk) (words : List ℕ) (steps asked : ℕ)
@@ -281,11 +281,11 @@ module _ (e : Errand) (always : EndsAlways (first_setting e) (first_start e)) (n
   struck_before : (n : ℕ) (x : After) (k : ℕ) → k ≤ n → NotesSmall x.machine.notes.now → StruckEffect (at_time (first_setting e) now) w.place.index (first_machine w words) x k →
       ActsWell e First (asked + n) (honest (first_to w x))
   struck_before n x k le noted (Plain effect) =
-      undoes_on e w nothing h.is.gate h.at.geometry h.second x.machine (asked + n) x.outcome noted
+      undoes_on e w nothing h.is.gate h.at.space h.second x.machine (asked + n) x.outcome noted
       (effect_undone e.taken (first_machine w words) x.machine effect (clean_keeps e w words steps asked h.at).undo)
   struck_before n x k le noted (Wrong a word was v stood room is so many) =
       subst (λ (z : After). ActsWell e First (asked + n) (honest (first_to w z))) (sym is)
-      (leads_on e w nothing h.is.gate h.at.geometry h.second (stored (one_made (first_machine w words)) a was v v) (asked + n) (w.place.index + 1)
+      (leads_on e w nothing h.is.gate h.at.space h.second (stored (one_made (first_machine w words)) a (change_of a was v) v) (asked + n) (w.place.index + 1)
       (Misreads (misread_so e w words aimed (clean_keeps e w words steps asked h.at) a was v (w.place.index + 1) (suc h.at.made) (asked + questions clean_step) (asked + n)
       (omega (arith, many, le)) word (honest clean_step) stood
       (came_on e always h.at.made asked w.place.index (first_machine w words) (came_clean e w words steps asked h.at) now small told) so)))
@@ -295,7 +295,7 @@ module _ (e : Errand) (always : EndsAlways (first_setting e) (first_start e)) (n
       subst (λ (z : Acted). ActsWell e First (asked + n) z) (sym is)
       (struck_before n x k (omega (arith, many)) (small_struck (first_setting e) now small w.place.index (first_machine w words) (clean_small e w words steps asked h.at) x k s) (struck_effect (at_time (first_setting e) now) w.place.index (first_machine w words) x k s))
   struck_within y n (Behind k s many) =
-      struck_behind e w nothing h.is.gate h.at.geometry h.second (honest clean_step).machine (asked + n)
+      struck_behind e w nothing h.is.gate h.at.space h.second (honest clean_step).machine (asked + n)
       (small_honest (first_setting e) now small w.place.index (first_machine w words) (clean_small e w words steps asked h.at))
       (effect_undone e.taken (first_machine w words) (honest clean_step).machine (honest_effect (at_time (first_setting e) now) w.place.index (first_machine w words)) (clean_keeps e w words steps asked h.at).undo)
       (honest clean_step).outcome y k s
@@ -311,7 +311,7 @@ first_struck e trusted now small told w words steps asked n y nothing h aimed s 
 
 -- but for its log, a pass with a misread word does what an honest one does
 module _ (e : Errand) (always : EndsAlways (first_setting e) (first_start e)) (now : ℕ) (small : now < 2 ^ 64) (told : Follows e.clock now) (w : Walk) (words : List ℕ) (asked : ℕ)
-    (nothing : w.want ≡ Nothing) (gate : w.gate.done ≡ phase_number First) (geometry : w.first.geometry ≡ e.geometry) (second : SecondIsNew e w) (h : IsMisread e w words asked) (total : ℕ)
+    (nothing : w.want ≡ Nothing) (gate : w.gate.done ≡ phase_number First) (space : w.first.space ≡ e.space) (second : SecondIsNew e w) (h : IsMisread e w words asked) (total : ℕ)
     (many : asked + (questions (first_step e now w.place.index (first_machine w words)) + asked_behind (honest (first_step e now w.place.index (first_machine w words))).outcome) ≤ total) where
   abbrev misread_step : Tree After
   misread_step = first_step e now w.place.index (first_machine w words)
@@ -372,7 +372,7 @@ module _ (e : Errand) (always : EndsAlways (first_setting e) (first_start e)) (n
           time = c.comes.time;
           made = suc h.made;
           whole = came_whole e always h.made h.number w.place.index (relogged h.log (first_machine w words)) came_here (h.number + questions relogged_step) (relogged relogs.log misread_end.machine) c;
-          first = ap (λ (g : Geometry). let p : PassState = record (pass_of w.first misread_end.machine) { geometry = g } in p) geometry;
+          first = ap (λ (g : PassSpace). let p : PassState = record (pass_of w.first misread_end.machine) { space = g } in p) space;
           notes = refl;
           applies = applies_on;
           questions = omega (arith, c.comes.asked c.comes.time c.comes.agrees, h.questions, asks_fewer, many, one);
@@ -383,11 +383,11 @@ module _ (e : Errand) (always : EndsAlways (first_setting e) (first_start e)) (n
 
   misread_acts : ActsWell e First total (honest (first_to w misread_end))
   misread_acts =
-      ends_so_by e w nothing gate geometry second misread_end.machine total misread_end.outcome
+      ends_so_by e w nothing gate space second misread_end.machine total misread_end.outcome
       (λ index is. Misreads (misreads_on (goes_by (Next index) is tt) index is))
       (λ is. let g : IsGoing misread_end.outcome = goes_by Halted is tt in HasMisread (relogged (relogs g).log misread_end.machine) (has_misread g is) off_on)
 
-module _ (e : Errand) (now : ℕ) (w : Walk) (words : List ℕ) (asked : ℕ) (nothing : w.want ≡ Nothing) (gate : w.gate.done ≡ phase_number First) (geometry : w.first.geometry ≡ e.geometry) (second : SecondIsNew e w) where
+module _ (e : Errand) (now : ℕ) (w : Walk) (words : List ℕ) (asked : ℕ) (nothing : w.want ≡ Nothing) (gate : w.gate.done ≡ phase_number First) (space : w.first.space ≡ e.space) (second : SecondIsNew e w) where
   -- whatever bucket is lent
   abbrev given_tree : Tree After
   given_tree = step_tree (setting_in (given_for e First w.wanted) Making w.sealed now) w.place.index (first_machine w words)
@@ -395,7 +395,7 @@ module _ (e : Errand) (now : ℕ) (w : Walk) (words : List ℕ) (asked : ℕ) (n
   undoes_honest : now < 2 ^ 64 → NotesSmall w.notes.now → undone w.first_log.items words ≡ e.taken → ActsWell e First (asked + questions (bound given_tree (first_to w))) (honest (bound given_tree (first_to w)))
   undoes_honest small noted u =
       subst (λ (y : Acted). ActsWell e First (asked + questions (bound given_tree (first_to w))) y) (sym (honest_bound given_tree (first_to w)))
-      (undoes_on e w nothing gate geometry second (honest given_tree).machine (asked + questions (bound given_tree (first_to w))) (honest given_tree).outcome
+      (undoes_on e w nothing gate space second (honest given_tree).machine (asked + questions (bound given_tree (first_to w))) (honest given_tree).outcome
       (small_honest (setting_in (given_for e First w.wanted) Making w.sealed now) now small w.place.index (first_machine w words) noted)
       (effect_undone e.taken (first_machine w words) (honest given_tree).machine
       (honest_effect (setting_in (given_for e First w.wanted) Making w.sealed now) w.place.index (first_machine w words)) u))
@@ -409,7 +409,7 @@ module _ (e : Errand) (now : ℕ) (w : Walk) (words : List ℕ) (asked : ℕ) (n
       subst (λ (t : Tree After). ActsWell e First (asked + questions (bound t (first_to w))) (honest (bound t (first_to w))))
       (sym (given_step e now w (first_machine w words) sealed h.aimed.wanted))
       (subst (λ (y : Acted). ActsWell e First (asked + questions (bound step (first_to w))) y) (sym (honest_bound step (first_to w)))
-      (misread_acts e always now small told w words asked nothing gate geometry second h (asked + questions (bound step (first_to w))) (omega (arith, all, behind))))
+      (misread_acts e always now small told w words asked nothing gate space second h (asked + questions (bound step (first_to w))) (omega (arith, all, behind))))
 
   honest_stands : IsTrusted e → now < 2 ^ 64 → Follows e.clock now → w.sealed ≡ e.sealed → FirstStruck e w words asked →
       ActsWell e First (asked + questions (bound given_tree (first_to w))) (honest (bound given_tree (first_to w)))
@@ -420,7 +420,7 @@ pub first_honest_on : (e : Errand) → IsTrusted e → (now : ℕ) → now < 2 ^
     StruckInFirst e w (Some words) asked →
     ActsWell e First (asked + questions (act_in (given_for e First w.wanted) now First w.place.index w words)) (honest (act_in (given_for e First w.wanted) now First w.place.index w words))
 first_honest_on e trusted now small told w words asked nothing gate sealed h =
-    honest_stands e now w words asked nothing gate h.geometry h.second trusted small told sealed h.stands
+    honest_stands e now w words asked nothing gate h.space h.second trusted small told sealed h.stands
 
 pub first_laws : (e : Errand) → IsTrusted e → PhaseLaws e First
 first_laws e trusted = record {

@@ -17,10 +17,9 @@ use Rattle.sei_fault.specs.Phases.{phase_number}
 use Rattle.sei_fault.specs.Tree.{Always, honest, questions, bound}
 use Rattle.sei_fault.proofs.StruckRuns.{always_struck}
 use Rattle.sei_restore.specs.Undoing.{undo_word, undo_at, restored}
-use Rattle.sei_stmt.specs.Machine.{Machine, After}
+use Rattle.sei_stmt.specs.Machine.{Machine, After, at_outcome}
 use Rattle.sei_stmt.specs.Machine.Outcome.{Next}
 use Rattle.sei_stmt.specs.Sound.{RisesFrom}
-use Rattle.sei_stmt.proofs.Effects.{at_outcome}
 use Rattle.sei_stmt.proofs.Invariant.{Keeps, keeps}
 use Rattle.sei_pass.specs.State.{PassState, new_pass}
 use Rattle.sei_pass.specs.Steps.{machine_of}
@@ -374,7 +373,7 @@ module _ (e : Errand) (w : Walk) (words : List ℕ) (asked more : ℕ) (le : ask
   begins_on : ComesOn e begun words words (Next 0) 0
   begins_on =
       sym (ap (λ (p : PassState). at_outcome (machine_of p words w.second_log w.notes) (Next 0)) new.second
-      ∙ ap (λ (l : Kept Change). at_outcome (machine_of (new_pass e.geometry) words l w.notes) (Next 0)) new.second_log)
+      ∙ ap (λ (l : Kept Change). at_outcome (machine_of (new_pass e.space) words l w.notes) (Next 0)) new.second_log)
 
   none_pending : undone (pending w) words ≡ e.taken → words ≡ e.taken
   none_pending u =

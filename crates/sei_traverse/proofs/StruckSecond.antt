@@ -1,46 +1,44 @@
 -- The second pass under one strike, and behind one.
-use Rattle.std.proofs.Common.{◌≡◌, ◌⊎◌, inl, inr, ℕ, zero, suc, ◌+◌, ◌≤◌, Bool, true, false, List, [], ◌∷◌, ◌++◌, length, slice_set, Option, Some, None, ap, sym, ◌∙◌, arith, refl, subst}
-use Rattle.std.specs.Prelude.{if◌then◌else◌, ◌==◌, nat_le, nat_lt, slice_get}
+use Rattle.std.proofs.Common.{◌≡◌, ◌⊎◌, inl, inr, ℕ, zero, suc, ◌+◌, ◌≤◌, Bool, true, false, List, [], ◌∷◌, ◌++◌, slice_set, Option, Some, None, ap, sym, ◌∙◌, arith, refl, subst}
+use Rattle.std.specs.Prelude.{if◌then◌else◌, ◌==◌}
 use Rattle.std.proofs.lemmas.Option.{same_Some}
-use Rattle.sei_code.specs.Codes.{message_code}
 use Rattle.sei_code.specs.Coded.{read_of}
-use Rattle.sei_code.specs.Kept.{Kept, has_room, pushed, emptied}
+use Rattle.sei_code.specs.Kept.{Kept}
 use Rattle.sei_code.specs.declared.coded.Coded.{Coded}
-use Rattle.sei_log.specs.Changes.{SameOff}
+use Rattle.sei_log.specs.Changes.{change_of, SameOff}
 use Rattle.sei_log.specs.declared.log.Change.{Change}
 use Rattle.sei_log.specs.declared.notes.Notes.{Notes}
 use Rattle.sei_log.proofs.ChangeLaws.{same_push}
 use Rattle.sei_fault.specs.declared.cause.AbortCause.{AbortCause}
-use Rattle.sei_fault.specs.declared.cause.AbortCause.TheVariants.{Code, LogFull, OutFull, Bucket, Budget, Gate}
-use Rattle.sei_fault.specs.declared.cause.AbortCause.TheVariants.{Notes as NoNotes}
+use Rattle.sei_fault.specs.declared.cause.AbortCause.TheVariants.{Gate}
 use Rattle.sei_fault.specs.declared.place.Phase.{Phase}
 use Rattle.sei_fault.specs.declared.place.Phase.TheVariants.{Second, Compare}
 use Rattle.sei_fault.specs.declared.place.Place.{Place}
 use Rattle.sei_fault.specs.Phases.{phase_number}
-use Rattle.sei_fault.specs.Question.Question.{Value, Written}
 use Rattle.sei_fault.specs.StruckRuns.{StruckRun}
 use Rattle.sei_fault.specs.Tree.{Tree, honest, questions, bound, Always}
-use Rattle.sei_fault.specs.Tree.Tree.{Ask}
 use Rattle.sei_fault.proofs.Bound.{honest_bound, questions_bound}
 use Rattle.sei_fault.proofs.Runs.{always_honest}
 use Rattle.sei_fault.proofs.StruckRuns.{StruckBound, struck_bound, always_struck}
 use Rattle.sei_fault.proofs.StruckRuns.StruckBound.{Before, Behind}
 use Rattle.sei_gate.specs.Closing.{risen}
 use Rattle.sei_stmt.specs.declared.stmt.Stmt.{Stmt}
-use Rattle.sei_stmt.specs.declared.stmt.Stmt.TheVariants.{Const, Move, Add, Sub, Input, Load, Store, Emit, Jump, JumpEq, JumpLt, Now, Alloc, Parse, Render, Halt}
+use Rattle.sei_stmt.specs.declared.stmt.Stmt.TheVariants.{Store}
 use Rattle.sei_stmt.specs.Asked.{making, first_asked}
-use Rattle.sei_stmt.specs.Handling.{parsed_words, refilled}
 use Rattle.sei_stmt.specs.Honest.{after, onward_from, asked_in, asked_after}
-use Rattle.sei_stmt.specs.Machine.{Machine, Setting, Outcome, After, register, ends, assign}
+use Rattle.sei_stmt.specs.Machine.{Machine, Setting, Outcome, After, register, one_made}
 use Rattle.sei_stmt.specs.Machine.Outcome.{Next, Halted, Bad}
-use Rattle.sei_stmt.specs.Slots.{lowest_free, is_admissible}
-use Rattle.sei_stmt.specs.Statements.{read_word, store_changed, store_word, stored, noted_value, noted_now, note_now, noted_slot_value, noted_slot, lowest_slot, parse_first, parse_bucket, parse_call, store_bytes, render_bytes, render_words, statement_tree, found_tree, step_tree}
+use Rattle.sei_stmt.specs.Slots.{is_admissible}
+use Rattle.sei_stmt.specs.Statements.{noted_value, noted_now, now_by, fit_if, noted_slot_value, noted_slot, alloc_by, statement_tree, step_tree}
 use Rattle.sei_stmt.proofs.HonestLaws.{after_one}
-use Rattle.sei_stmt.proofs.Effects.{change, Effect, StruckEffect, honest_effect, struck_effect}
+use Rattle.sei_stmt.proofs.Effects.{Effect, StruckEffect, honest_effect, struck_effect}
 use Rattle.sei_stmt.proofs.Effects.Effect.{Untouched, Wrote}
 use Rattle.sei_stmt.proofs.Effects.StruckEffect.{Plain, Wrong}
 use Rattle.sei_stmt.proofs.Invariant.{keeps}
 use Rattle.sei_stmt.proofs.Relog.{IsGoing}
+use Rattle.sei_stmt.proofs.PublicStatementEnds.{step_keeps}
+use Rattle.sei_stmt.proofs.PublicStatementRuns.{looks, plain_repeats, by_statements}
+use Rattle.sei_stmt.proofs.PublicStatementRuns.Looks.{Stores, Times, Slots, Neither}
 use Rattle.sei_pass.specs.declared.given.Sealed.{Sealed}
 use Rattle.sei_pass.specs.declared.given.Which.TheVariants.{Making, Reading}
 use Rattle.sei_traverse.specs.declared.turned.Want.{Want}
@@ -67,130 +65,24 @@ use Rattle.sei_traverse.proofs.PhaseLaws.LeadsWell.{Onward}
 use Rattle.sei_traverse.proofs.SmallNotes.{small_whole}
 use Rattle.sei_traverse.proofs.TimeLaws.{timeless_again}
 
--- A statement of a reading pass leaves the notes, whatever is answered.
+-- A step of a reading pass leaves the notes, whatever is answered.
 
--- the notes are these
-abbrev Noted : Notes → After → Type 0
-Noted k x = x.machine.notes ≡ k
+reading_notes : {A : Type 0} (g : Setting) → g.reading ≡ true → g.reading ≡ false → A
+reading_notes g e r = absurd (let z : ⊥ = cc in z)
 
-kept_read : (m : Machine) (i to a : ℕ) (word : Option ℕ) → Always (Noted m.notes) (read_word i m to a word)
-kept_read m i to a None = refl
-kept_read m i to a (Some word) = λ v w. refl
-
-kept_changed : (m : Machine) (i a was v : ℕ) (room : Bool) →
-    Always (Noted m.notes) (if room then Ask (Written v) (λ w. ends (stored m a was v w) (Next (i + 1))) else ends m (Bad LogFull))
-kept_changed m i a was v true = λ w. refl
-kept_changed m i a was v false = refl
-
-kept_tested : (m : Machine) (i a was v : ℕ) (same : Bool) → Always (Noted m.notes) (if same then ends m (Next (i + 1)) else store_changed i m a was v)
-kept_tested m i a was v true = refl
-kept_tested m i a was v false = kept_changed m i a was v (has_room m.log)
-
-kept_store : (m : Machine) (i from a : ℕ) (word : Option ℕ) → Always (Noted m.notes) (store_word i m from a word)
-kept_store m i from a None = refl
-kept_store m i from a (Some word) = λ v was same. kept_tested m i a was v same
-
-kept_emit : (m : Machine) (i r : ℕ) (room : Bool) →
-    Always (Noted m.notes) (if room then Ask (Value r) (λ v. Ask (Written v) (λ w. ends (record m { output = pushed m.output w }) (Next (i + 1)))) else ends m (Bad OutFull))
-kept_emit m i r true = λ v w. refl
-kept_emit m i r false = refl
-
-kept_value : (m : Machine) (i to : ℕ) (n : Option ℕ) → Always (Noted m.notes) (noted_value i m to n)
-kept_value m i to None = refl
-kept_value m i to (Some n) = λ v w. refl
-
-kept_noted : (m : Machine) (i to : ℕ) (note : Option Coded) → Always (Noted m.notes) (noted_now i m to note)
-kept_noted m i to None = refl
-kept_noted m i to (Some note) = kept_value m i to (read_of note)
-
-kept_now : (g : Setting) (m : Machine) (i to : ℕ) (reading : Bool) → reading ≡ true →
-    Always (Noted m.notes) (if reading then noted_now i m to m.notes.now else Ask (Value g.now) (λ v. assign i (note_now m g.now) to v))
-kept_now g m i to true e = kept_noted m i to m.notes.now
-kept_now g m i to false e = absurd cc
-
-kept_fit : (m : Machine) (i to slot : ℕ) (fit : Bool) → Always (Noted m.notes) (if fit then Ask (Value slot) (λ v. assign i m to v) else ends m (Bad NoNotes))
-kept_fit m i to slot true = λ v w. refl
-kept_fit m i to slot false = refl
-
-kept_slot_value : (g : Setting) (m : Machine) (i to moment : ℕ) (slot : Option ℕ) → Always (Noted m.notes) (noted_slot_value g i m to moment slot)
-kept_slot_value g m i to moment None = refl
-kept_slot_value g m i to moment (Some slot) = λ fit. kept_fit m i to slot fit
-
-kept_slot : (g : Setting) (m : Machine) (i to moment : ℕ) (note : Option Coded) → Always (Noted m.notes) (noted_slot g i m to moment note)
-kept_slot g m i to moment None = refl
-kept_slot g m i to moment (Some note) = kept_slot_value g m i to moment (read_of note)
-
-kept_alloc : (g : Setting) (m : Machine) (i to t : ℕ) (reading : Bool) → reading ≡ true →
-    Always (Noted m.notes) (if reading then noted_slot g i m to t m.notes.slot else lowest_slot i m to (lowest_free g m.words t))
-kept_alloc g m i to t true e = kept_slot g m i to t m.notes.slot
-kept_alloc g m i to t false e = absurd cc
-
-kept_first : (m : Machine) (i : ℕ) (words items : List ℕ) → Always (Noted m.notes) (parse_first i (record m { input = refilled m.input words }) items)
-kept_first m i words [] = refl
-kept_first m i words (x ∷ xs) = λ w. refl
-
-kept_bucket : (m : Machine) (i : ℕ) (words : List ℕ) (b : Bool) →
-    Always (Noted m.notes) (if b then parse_first i (record m { input = refilled m.input words }) words else ends (record m { input = refilled m.input words }) (Bad Bucket))
-kept_bucket m i words true = kept_first m i words words
-kept_bucket m i words false = refl
-
-kept_call : (g : Setting) (m : Machine) (i : ℕ) (words : List ℕ) (b : Bool) →
-    Always (Noted m.notes) (if b then parse_bucket g i (record m { input = refilled m.input words }) else ends (record m { input = refilled m.input words }) (Bad Code))
-kept_call g m i words true = λ c. kept_bucket m i words c
-kept_call g m i words false = refl
-
-kept_parse : (g : Setting) (m : Machine) (i : ℕ) (words : List ℕ) (b : Bool) →
-    Always (Noted m.notes) (if b then parse_call g i (record m { input = refilled m.input words }) else ends m (Bad Code))
-kept_parse g m i words true = λ c. kept_call g m i words c
-kept_parse g m i words false = refl
-
-kept_bytes : (m : Machine) (i : ℕ) (code : Option ℕ) (bytes : List ℕ) → Always (Noted m.notes) (store_bytes i (record m { code = code }) bytes)
-kept_bytes m i code [] = refl
-kept_bytes m i code (b ∷ bs) = λ w. refl
-
-kept_made : (m : Machine) (i : ℕ) (code : Option ℕ) (bytes : List ℕ) (fits : Bool) →
-    Always (Noted m.notes) (if fits then store_bytes i (record m { code = code }) bytes else ends (record m { bytes = emptied m.bytes }) (Bad OutFull))
-kept_made m i code bytes true = kept_bytes m i code bytes
-kept_made m i code bytes false = refl
-
-kept_rendered : (g : Setting) (m : Machine) (i : ℕ) (made : Option (List ℕ)) → Always (Noted m.notes) (render_bytes g i m made)
-kept_rendered g m i None = refl
-kept_rendered g m i (Some bytes) = kept_made m i (Some (message_code g.answer bytes)) bytes (nat_le (length bytes) m.bytes.room)
-
-kept_render : (g : Setting) (m : Machine) (i : ℕ) (read words : List ℕ) → Always (Noted m.notes) (render_words g i m read words)
-kept_render g m i read [] = kept_rendered g m i (g.rendered read)
-kept_render g m i read (word ∷ words) = λ v. kept_render g m i (read ++ v ∷ []) words
-
-kept_statement : (g : Setting) (i : ℕ) (m : Machine) (s : Stmt) → g.reading ≡ true → Always (Noted m.notes) (statement_tree g i m s)
-kept_statement g i m (Const to number) e = λ w. refl
-kept_statement g i m (Move to from) e = λ v w. refl
-kept_statement g i m (Add to left right) e = λ a b w. refl
-kept_statement g i m (Sub to left right) e = λ a b w. refl
-kept_statement g i m (Input to index) e = λ a. kept_read m i to a (slice_get m.input.items a)
-kept_statement g i m (Load to address) e = λ a. kept_read m i to a (slice_get m.words a)
-kept_statement g i m (Store address from) e = λ a. kept_store m i from a (slice_get m.words a)
-kept_statement g i m (Emit from) e = kept_emit m i (register m from) (has_room m.output)
-kept_statement g i m (Jump offset) e = refl
-kept_statement g i m (JumpEq left right offset) e = λ a b c. refl
-kept_statement g i m (JumpLt left right offset) e = λ a b c. refl
-kept_statement g i m (Now to) e = kept_now g m i to g.reading e
-kept_statement g i m (Alloc to moment) e = λ t. kept_alloc g m i to t g.reading e
-kept_statement g i m Parse e = λ b. kept_parse g m i (parsed_words g.parsed) b
-kept_statement g i m Render e = kept_render g m i [] m.output.items
-kept_statement g i m Halt e = refl
-
-kept_counted : (g : Setting) (i : ℕ) (m : Machine) (s : Stmt) (enough : Bool) → g.reading ≡ true →
-    Always (Noted m.notes) (if enough then statement_tree g i (record m { made = m.made + 1 }) s else ends m (Bad Budget))
-kept_counted g i m s true e = kept_statement g i (record m { made = m.made + 1 }) s e
-kept_counted g i m s false e = refl
-
-kept_found : (g : Setting) (i : ℕ) (m : Machine) (o : Option Stmt) → g.reading ≡ true → Always (Noted m.notes) (found_tree g i m o)
-kept_found g i m None e = refl
-kept_found g i m (Some s) e = kept_counted g i m s (nat_lt m.made g.budget) e
-
--- so does each of its steps
-pub notes_kept : (g : Setting) (i : ℕ) (m : Machine) → g.reading ≡ true → Always (Noted m.notes) (step_tree g i m)
-notes_kept g i m e = kept_found g i m (slice_get g.statements i) e
+pub notes_kept : (g : Setting) (i : ℕ) (m : Machine) → g.reading ≡ true → Always (λ (x : After). x.machine.notes ≡ m.notes) (step_tree g i m)
+notes_kept g i m e = step_keeps g (λ y. y.notes ≡ m.notes) (λ s. record {
+  assigned = λ y to w h. h;
+  logged = λ is y a was w entry there room h. h;
+  emits = λ y w room h. h;
+  timed = λ is r. reading_notes g e r;
+  slotted = λ is r. reading_notes g e r;
+  filled = λ y h. h;
+  first = λ y word w words is h. h;
+  coded = λ is y code h. h;
+  emptied = λ is y h. h;
+  rendered = λ is y byte bytes small fits h. h;
+}) (λ y h. h) i m refl
 
 -- Where a reading step goes on, a making one asks no more questions there.
 
@@ -206,14 +98,11 @@ noted_asks : (i : ℕ) (m : Machine) (to : ℕ) (note : Option Coded) → IsGoin
 noted_asks i m to None going = absurd going
 noted_asks i m to (Some note) going = value_asks i m to (read_of note) going
 
-now_asks : (g : Setting) (i : ℕ) (m : Machine) (to : ℕ) (reading : Bool) → reading ≡ true →
-    IsGoing (honest (if reading then noted_now i m to m.notes.now else Ask (Value g.now) (λ v. assign i (note_now m g.now) to v))).outcome →
-    2 ≤ questions (if reading then noted_now i m to m.notes.now else Ask (Value g.now) (λ v. assign i (note_now m g.now) to v))
+now_asks : (g : Setting) (i : ℕ) (m : Machine) (to : ℕ) (reading : Bool) → reading ≡ true → IsGoing (honest (now_by reading g i m to)).outcome → 2 ≤ questions (now_by reading g i m to)
 now_asks g i m to true e going = noted_asks i m to m.notes.now going
 now_asks g i m to false e going = absurd cc
 
-fit_asks : (i : ℕ) (m : Machine) (to slot : ℕ) (fit : Bool) → IsGoing (honest (if fit then Ask (Value slot) (λ v. assign i m to v) else ends m (Bad NoNotes))).outcome →
-    2 ≤ questions (if fit then Ask (Value slot) (λ v. assign i m to v) else ends m (Bad NoNotes))
+fit_asks : (i : ℕ) (m : Machine) (to slot : ℕ) (fit : Bool) → IsGoing (honest (fit_if fit i m to slot)).outcome → 2 ≤ questions (fit_if fit i m to slot)
 fit_asks i m to slot true going = omega arith
 fit_asks i m to slot false going = absurd going
 
@@ -229,55 +118,28 @@ slot_asks : (g : Setting) (i : ℕ) (m : Machine) (to moment : ℕ) (note : Opti
 slot_asks g i m to moment None going = absurd going
 slot_asks g i m to moment (Some note) going = slot_value_asks g i m to moment (read_of note) going
 
-alloc_asks : (g : Setting) (i : ℕ) (m : Machine) (to t : ℕ) (reading : Bool) → reading ≡ true →
-    IsGoing (honest (if reading then noted_slot g i m to t m.notes.slot else lowest_slot i m to (lowest_free g m.words t))).outcome →
-    2 ≤ questions (if reading then noted_slot g i m to t m.notes.slot else lowest_slot i m to (lowest_free g m.words t))
+alloc_asks : (g : Setting) (i : ℕ) (m : Machine) (to t : ℕ) (reading : Bool) → reading ≡ true → IsGoing (honest (alloc_by reading g i m to t)).outcome → 2 ≤ questions (alloc_by reading g i m to t)
 alloc_asks g i m to t true e going = slot_asks g i m to t m.notes.slot going
 alloc_asks g i m to t false e going = absurd cc
 
-rendered_asks : (g : Setting) (i : ℕ) (m : Machine) (made : Option (List ℕ)) → questions (render_bytes (making g) i m made) ≤ questions (render_bytes g i m made)
-rendered_asks g i m None = omega arith
-rendered_asks g i m (Some bytes) = at_most (questions (render_bytes g i m (Some bytes)))
+-- the statement asks no more where it is made
+abbrev AsksMore : Setting → ℕ → Machine → Stmt → Type 0
+AsksMore g i m s = IsGoing (honest (statement_tree g i m s)).outcome → questions (statement_tree (making g) i m s) ≤ questions (statement_tree g i m s)
 
-render_asks : (g : Setting) (i : ℕ) (m : Machine) (read words : List ℕ) → questions (render_words (making g) i m read words) ≤ questions (render_words g i m read words)
-render_asks g i m read [] = rendered_asks g i m (g.rendered read)
-render_asks g i m read (word ∷ words) = let less = render_asks g i m (read ++ word ∷ []) words in omega (arith, less)
-
-statement_asks : (g : Setting) (i : ℕ) (m : Machine) (s : Stmt) → g.reading ≡ true → IsGoing (honest (statement_tree g i m s)).outcome →
-    questions (statement_tree (making g) i m s) ≤ questions (statement_tree g i m s)
-statement_asks g i m (Const to number) e going = at_most (questions (statement_tree g i m (Const to number)))
-statement_asks g i m (Move to from) e going = at_most (questions (statement_tree g i m (Move to from)))
-statement_asks g i m (Add to left right) e going = at_most (questions (statement_tree g i m (Add to left right)))
-statement_asks g i m (Sub to left right) e going = at_most (questions (statement_tree g i m (Sub to left right)))
-statement_asks g i m (Input to index) e going = at_most (questions (statement_tree g i m (Input to index)))
-statement_asks g i m (Load to address) e going = at_most (questions (statement_tree g i m (Load to address)))
-statement_asks g i m (Store address from) e going = at_most (questions (statement_tree g i m (Store address from)))
-statement_asks g i m (Emit from) e going = at_most (questions (statement_tree g i m (Emit from)))
-statement_asks g i m (Jump offset) e going = at_most (questions (statement_tree g i m (Jump offset)))
-statement_asks g i m (JumpEq left right offset) e going = at_most (questions (statement_tree g i m (JumpEq left right offset)))
-statement_asks g i m (JumpLt left right offset) e going = at_most (questions (statement_tree g i m (JumpLt left right offset)))
-statement_asks g i m (Now to) e going = now_asks g i m to g.reading e going
-statement_asks g i m (Alloc to moment) e going = let two = alloc_asks g i m to (register m moment) g.reading e going in omega (arith, two)
-statement_asks g i m Parse e going = at_most (questions (statement_tree g i m Parse))
-statement_asks g i m Render e going = render_asks g i m [] m.output.items
-statement_asks g i m Halt e going = at_most (questions (statement_tree g i m Halt))
-
-counted_asks : (g : Setting) (i : ℕ) (m : Machine) (s : Stmt) (enough : Bool) → g.reading ≡ true →
-    IsGoing (honest (if enough then statement_tree g i (record m { made = m.made + 1 }) s else ends m (Bad Budget))).outcome →
-    questions (if enough then statement_tree (making g) i (record m { made = m.made + 1 }) s else ends m (Bad Budget))
-    ≤ questions (if enough then statement_tree g i (record m { made = m.made + 1 }) s else ends m (Bad Budget))
-counted_asks g i m s true e going = statement_asks g i (record m { made = m.made + 1 }) s e going
-counted_asks g i m s false e going = absurd going
-
-found_asks : (g : Setting) (i : ℕ) (m : Machine) (o : Option Stmt) → g.reading ≡ true → IsGoing (honest (found_tree g i m o)).outcome →
-    questions (found_tree (making g) i m o) ≤ questions (found_tree g i m o)
-found_asks g i m None e going = absurd going
-found_asks g i m (Some s) e going = counted_asks g i m s (nat_lt m.made g.budget) e going
+statement_asks : (g : Setting) (i : ℕ) (m : Machine) (s : Stmt) → g.reading ≡ true → AsksMore g i m s
+statement_asks g i m s e = elim (looks s) [
+  | Stores address from is ↦ subst (AsksMore g i m) (sym is) (λ going. at_most (questions (statement_tree g i m (Store address from))))
+  | Times to is ↦ subst (AsksMore g i m) (sym is) (λ going. now_asks g i m to g.reading e going)
+  | Slots to moment is ↦ subst (AsksMore g i m) (sym is) (λ going. let two = alloc_asks g i m to (register m moment) g.reading e going in omega (arith, two))
+  | Neither plain ↦ λ going. omega (arith, (plain_repeats false g.now (λ log. log) (λ notes. notes) g i m s plain).asked)
+]
 
 -- a step that is read and goes on asks at least as much as one that is made
 pub making_asks : (g : Setting) (i : ℕ) (m : Machine) → g.reading ≡ true → IsGoing (honest (step_tree g i m)).outcome →
     questions (step_tree (making g) i m) ≤ questions (step_tree g i m)
-making_asks g i m e going = found_asks g i m (slice_get g.statements i) e going
+making_asks g i m e =
+    by_statements false g.now (λ log. log) (λ notes. notes) g i m (λ a b. IsGoing (honest a).outcome → questions b ≤ questions a) (λ cause going. absurd going)
+    (λ s is. statement_asks g i (one_made m) s e)
 
 -- a run that did not abort had not aborted before
 going_before : (g : Setting) (m : Machine) (o : Outcome) → IsGoing (onward_from g m o).outcome → IsGoing o
@@ -306,15 +168,15 @@ effect_off those m y (Untouched words log) s =
     let same_words : SameOff m.log.items y.words those = subst (λ (ws : List ℕ). SameOff m.log.items ws those) (sym words) s in
     subst (λ (k : Kept Change). SameOff k.items y.words those) (sym log) same_words
 effect_off those m y (Wrote a was v w here words log) s =
-    let one : SameOff (m.log.items ++ change a was v ∷ []) (slice_set m.words a w) those = same_push m.log.items (change a was v) m.words those w s in
-    let same_words : SameOff (m.log.items ++ change a was v ∷ []) y.words those = subst (λ (ws : List ℕ). SameOff (m.log.items ++ change a was v ∷ []) ws those) (sym words) one in
+    let one : SameOff (m.log.items ++ change_of a was v ∷ []) (slice_set m.words a w) those = same_push m.log.items (change_of a was v) m.words those w s in
+    let same_words : SameOff (m.log.items ++ change_of a was v ∷ []) y.words those = subst (λ (ws : List ℕ). SameOff (m.log.items ++ change_of a was v ∷ []) ws those) (sym words) one in
     subst (λ (k : Kept Change). SameOff k.items y.words those) (sym log) same_words
 
 struck_off : (those : List ℕ) (g : Setting) (i : ℕ) (m : Machine) (y : After) (n : ℕ) → StruckEffect g i m y n → SameOff m.log.items m.words those →
     SameOff y.machine.log.items y.machine.words those
 struck_off those g i m y n (Plain e) s = effect_off those m y.machine e s
 struck_off those g i m y n (Wrong a word was v here room is or asks) s =
-    subst (λ (x : After). SameOff x.machine.log.items x.machine.words those) (sym is) (same_push m.log.items (change a was v) m.words those v s)
+    subst (λ (x : After). SameOff x.machine.log.items x.machine.words those) (sym is) (same_push m.log.items (change_of a was v) m.words those v s)
 
 -- One honest step more.
 
@@ -362,7 +224,7 @@ module _ (e : Errand) (w : Walk) (words : List ℕ) where
   on_end = honest (on_step e w words)
 
   notes_here : on_end.machine.notes ≡ w.notes
-  notes_here = always_honest (Noted w.notes) (on_step e w words) (notes_kept (setting_on e w.wanted) w.place.index (second_machine w words) refl)
+  notes_here = always_honest (λ (y : After). y.machine.notes ≡ w.notes) (on_step e w words) (notes_kept (setting_on e w.wanted) w.place.index (second_machine w words) refl)
 
   module _ (done : ℕ) (want : Want) (to : Place) (asked later : ℕ) (le : asked + (questions (on_step e w words) + asked_behind on_end.outcome) ≤ later) (going : IsGoing on_end.outcome) where
     abbrev there : Walk
@@ -552,7 +414,7 @@ module _ (e : Errand) (trusted : IsTrusted e) (now : ℕ) (w : Walk) (words : Li
   -- in the statement
   in_statement : (x : After) (m : ℕ) → StruckRun (on_step e w words) x m → y ≡ honest (second_to w x) → ActsWell e Second (asked + n) y
   in_statement x m s is =
-      let kept : x.machine.notes ≡ w.notes = always_struck (Noted w.notes) (on_step e w words) x m (notes_kept (setting_on e w.wanted) w.place.index (second_machine w words) refl) s in
+      let kept : x.machine.notes ≡ w.notes = always_struck (λ (y : After). y.machine.notes ≡ w.notes) (on_step e w words) x m (notes_kept (setting_on e w.wanted) w.place.index (second_machine w words) refl) s in
       let off : SameOff x.machine.log.items x.machine.words e.taken =
       struck_off e.taken (setting_on e w.wanted) w.place.index (second_machine w words) x m (struck_effect (setting_on e w.wanted) w.place.index (second_machine w words) x m s) off_here in
       let was : WasHonest e w h.end asked = clean_was e w (Some words) steps asked h aimed w aimed refl refl refl in

@@ -8,21 +8,23 @@ use Rattle.sei_code.specs.Coded.{sealed}
 use Rattle.sei_code.specs.declared.coded.Coded.{Coded}
 use Rattle.sei_log.specs.declared.notes.Notes.{Notes}
 use Rattle.sei_fault.specs.declared.cause.AbortCause.{AbortCause}
-use Rattle.sei_fault.specs.declared.cause.AbortCause.TheVariants.{Budget}
 use Rattle.sei_fault.specs.Tree.{Tree, honest, questions}
 use Rattle.sei_fault.specs.Tree.Tree.{Ask}
 use Rattle.sei_fault.specs.Question.Question.{Value}
 use Rattle.sei_stmt.specs.declared.stmt.Stmt.{Stmt}
-use Rattle.sei_stmt.specs.declared.stmt.Stmt.TheVariants.{Const, Move, Add, Sub, Input, Load, Store, Emit, Jump, JumpEq, JumpLt, Now, Alloc, Parse, Render, Halt}
-use Rattle.sei_stmt.specs.Machine.{Machine, Setting, Outcome, After, ends, assign}
+use Rattle.sei_stmt.specs.declared.stmt.Stmt.TheVariants.{Now, Render}
+use Rattle.sei_stmt.specs.Machine.{Machine, Setting, Outcome, After, one_made, ends}
 use Rattle.sei_stmt.specs.Machine.Outcome.{Next, Halted, Bad}
-use Rattle.sei_stmt.specs.Statements.{now_tree, note_now, render_bytes, render_words, statement_tree, found_tree, step_tree}
+use Rattle.sei_stmt.specs.Asked.{making}
+use Rattle.sei_stmt.specs.Statements.{now_tree, render_bytes, render_words, statement_tree, count_if, found_tree, step_tree}
+use Rattle.sei_stmt.proofs.PublicStatementRuns.{by_statements}
 use Rattle.sei_stmt.specs.Honest.{after, onward, onward_from, asked_in, asked_after, HonestRun}
 use Rattle.sei_stmt.specs.Order.{finished, stage_onward, stage_after}
 use Rattle.sei_stmt.specs.Sound.{RisesFrom}
 use Rattle.sei_stmt.proofs.HonestLaws.{after_one, still_halted, halts_or_aborts, halts_or_goes_on}
 use Rattle.sei_traverse.specs.Comes.{at_time, again, Agrees, Comes, EndsAt, EndsAlways}
-use Rattle.sei_traverse.proofs.NoteLaws.{now_first, now_kept, stage_of, untimed_before}
+use Rattle.sei_traverse.specs.Errand.{no_notes}
+use Rattle.sei_traverse.proofs.NoteLaws.{now_kept, stage_of, untimed_before}
 
 -- the time and one step
 
@@ -36,37 +38,23 @@ timeless_render g t i m read (word ∷ words) = ap (Ask (Value word)) (fun_ext (
 
 timeless_statement : (g : Setting) (t i : ℕ) (m : Machine) (s : Stmt) → ((to : ℕ) → s ≡ Now to → now_tree (at_time g t) i m to ≡ now_tree g i m to) →
     statement_tree (at_time g t) i m s ≡ statement_tree g i m s
-timeless_statement g t i m (Const to number) h = refl
-timeless_statement g t i m (Move to from) h = refl
-timeless_statement g t i m (Add to left right) h = refl
-timeless_statement g t i m (Sub to left right) h = refl
-timeless_statement g t i m (Input to index) h = refl
-timeless_statement g t i m (Load to address) h = refl
-timeless_statement g t i m (Store address from) h = refl
-timeless_statement g t i m (Emit from) h = refl
-timeless_statement g t i m (Jump offset) h = refl
-timeless_statement g t i m (JumpEq left right offset) h = refl
-timeless_statement g t i m (JumpLt left right offset) h = refl
 timeless_statement g t i m (Now to) h = h to refl
-timeless_statement g t i m (Alloc to moment) h = refl
-timeless_statement g t i m Parse h = refl
 timeless_statement g t i m Render h = timeless_render g t i m [] m.output.items
-timeless_statement g t i m Halt h = refl
+timeless_statement g t i m s h = refl
 
-timeless_found : (g : Setting) (t i : ℕ) (m : Machine) (o : Option Stmt) → ((to : ℕ) → o ≡ Some (Now to) → (c : Machine) → now_tree (at_time g t) i c to ≡ now_tree g i c to) →
-    found_tree (at_time g t) i m o ≡ found_tree g i m o
-timeless_found g t i m None h = refl
-timeless_found g t i m (Some s) h =
-    ap (λ (tree : Tree After). if nat_lt m.made g.budget then tree else ends m (Bad Budget))
-    (timeless_statement g t i (record m { made = m.made + 1 }) s (λ to e. h to (ap Some e) (record m { made = m.made + 1 })))
+timeless_step : (g : Setting) (t i : ℕ) (m : Machine) → ((to : ℕ) → slice_get g.statements i ≡ Some (Now to) → (c : Machine) → now_tree (at_time g t) i c to ≡ now_tree g i c to) →
+    step_tree (at_time g t) i m ≡ step_tree g i m
+timeless_step g t i m h =
+    by_statements g.reading t (λ log. log) (λ notes. notes) g i m (λ a b. b ≡ a) (λ cause. refl)
+    (λ s is. timeless_statement g t i (one_made m) s (λ to e. h to (is ∙ ap Some e) (one_made m)))
 
 -- a step that doesn't ask for the time is the same whatever the time is
 pub timeless : (g : Setting) (t i : ℕ) (m : Machine) → ((to : ℕ) → slice_get g.statements i ≡ Some (Now to) → ⊥) → step_tree (at_time g t) i m ≡ step_tree g i m
-timeless g t i m other = timeless_found g t i m (slice_get g.statements i) (λ to e. absurd (other to e))
+timeless g t i m other = timeless_step g t i m (λ to e. absurd (other to e))
 
 -- the second pass never asks the clock
 pub timeless_again : (g : Setting) (t i : ℕ) (m : Machine) → step_tree (at_time (again g) t) i m ≡ step_tree (again g) i m
-timeless_again g t i m = timeless_found (again g) t i m (slice_get g.statements i) (λ to e c. refl)
+timeless_again g t i m = timeless_step (again g) t i m (λ to e c. refl)
 
 onward_again : (g : Setting) (t : ℕ) (m : Machine) (o : Outcome) → onward_from (at_time (again g) t) m o ≡ onward_from (again g) m o
 onward_again g t m (Next i) = ap (λ (tree : Tree After). honest tree) (timeless_again g t i m)
@@ -100,22 +88,8 @@ data Asks (o : Option Stmt) : Type 0 where
   Untimed : ((to : ℕ) → o ≡ Some (Now to) → ⊥) → Asks o
 
 asks_time : (s : Stmt) → Asks (Some s)
-asks_time (Const to number) = Untimed (λ t e. cc)
-asks_time (Move to from) = Untimed (λ t e. cc)
-asks_time (Add to left right) = Untimed (λ t e. cc)
-asks_time (Sub to left right) = Untimed (λ t e. cc)
-asks_time (Input to index) = Untimed (λ t e. cc)
-asks_time (Load to address) = Untimed (λ t e. cc)
-asks_time (Store address from) = Untimed (λ t e. cc)
-asks_time (Emit from) = Untimed (λ t e. cc)
-asks_time (Jump offset) = Untimed (λ t e. cc)
-asks_time (JumpEq left right offset) = Untimed (λ t e. cc)
-asks_time (JumpLt left right offset) = Untimed (λ t e. cc)
 asks_time (Now to) = Timed to refl
-asks_time (Alloc to moment) = Untimed (λ t e. cc)
-asks_time Parse = Untimed (λ t e. cc)
-asks_time Render = Untimed (λ t e. cc)
-asks_time Halt = Untimed (λ t e. cc)
+asks_time s = Untimed (λ t e. cc)
 
 asks : (o : Option Stmt) → Asks o
 asks None = Untimed (λ t e. cc)
@@ -127,26 +101,25 @@ within_clock None t a = a
 within_clock (Some c) t a = a.1
 
 -- a first pass has come to its beginning
-pub comes_start : (g : Setting) (start : Machine) → start.notes ≡ record { now = None; slot = None } → Comes g start 0 (record { machine = start; outcome = Next 0 }) 0
+pub comes_start : (g : Setting) (start : Machine) → start.notes ≡ no_notes → Comes g start 0 (record { machine = start; outcome = Next 0 }) 0
 comes_start g start blank =
     let none : start.notes.now ≡ None = ap (λ (n : Notes). n.now) blank in
     record { time = 0; agrees = subst (λ o. Agrees o 0) (sym none) (omega arith); run = λ now a. refl; asked = λ now a. refl }
 
--- the tree of a statement that asks for the time, where the budget allows it
-abbrev timing : Machine → ℕ → ℕ → Bool → ℕ → Tree After
-timing m i to enough t = if enough then Ask (Value t) (λ v. assign i (note_now (record m { made = m.made + 1 }) t) to v) else ends m (Bad Budget)
+-- the tree of a statement of a first pass that asks for the time, where the budget allows it
+abbrev timing : Setting → Machine → ℕ → ℕ → Bool → ℕ → Tree After
+timing g m i to enough t = count_if enough (making (at_time g t)) i m (Now to)
 
-timed_step : (g : Setting) (m : Machine) (i to t : ℕ) → g.reading ≡ false → slice_get g.statements i ≡ Some (Now to) → step_tree (at_time g t) i m ≡ timing m i to (nat_lt m.made g.budget) t
+timed_step : (g : Setting) (m : Machine) (i to t : ℕ) → g.reading ≡ false → slice_get g.statements i ≡ Some (Now to) → step_tree (at_time g t) i m ≡ timing g m i to (nat_lt m.made g.budget) t
 timed_step g m i to t first is =
-    ap (found_tree (at_time g t) i m) is
-    ∙ ap (λ (tree : Tree After). if nat_lt m.made g.budget then tree else ends m (Bad Budget)) (now_first (at_time g t) i (record m { made = m.made + 1 }) to first)
+    ap (λ (b : Bool). step_tree (record (at_time g t) { reading = b }) i m) first ∙ ap (found_tree (making (at_time g t)) i m) is
 
 asked_one : (g : Setting) (start m : Machine) (i n q : ℕ) (tree : Tree After) → after g start n ≡ record { machine = m; outcome = Next i } → asked_after g start n ≡ q → step_tree g i m ≡ tree →
     asked_after g start (suc n) ≡ q + questions tree
 asked_one g start m i n q tree e f h =
     ap (λ (x : After). asked_after g start n + asked_in g x.machine x.outcome) e ∙ ap (λ k. k + questions (step_tree g i m)) f ∙ ap (λ (x : Tree After). q + questions x) h
 
-module _ (g : Setting) (start : Machine) (first : g.reading ≡ false) (blank : start.notes ≡ record { now = None; slot = None }) (always : EndsAlways g start) where
+module _ (g : Setting) (start : Machine) (first : g.reading ≡ false) (blank : start.notes ≡ no_notes) (always : EndsAlways g start) where
   -- where the run goes on it has not ended
   pub goes_on : (n i t : ℕ) (m : Machine) (lt : t < 2 ^ 64) → after (at_time g t) start n ≡ record { machine = m; outcome = Next i } → n < (always t lt).steps
   goes_on n i t m lt e = by_order (cases_lt n (always t lt).steps)
@@ -167,7 +140,7 @@ module _ (g : Setting) (start : Machine) (first : g.reading ≡ false) (blank : 
   comes_untimed : (n i q t : ℕ) (m : Machine) → Comes g start n (record { machine = m; outcome = Next i }) q → ((to : ℕ) → slice_get g.statements i ≡ Some (Now to) → ⊥) →
       Comes g start (suc n) (honest (step_tree (at_time g t) i m)) (q + questions (step_tree (at_time g t) i m))
   comes_untimed n i q t m c other =
-      let kept : (honest (step_tree (at_time g t) i m)).machine.notes.now ≡ m.notes.now = now_kept (at_time g t) i m (slice_get g.statements i) first other in
+      let kept : (honest (step_tree (at_time g t) i m)).machine.notes.now ≡ m.notes.now = now_kept (at_time g t) i m other in
       let same : (now : ℕ) → step_tree (at_time g now) i m ≡ step_tree (at_time g t) i m = λ now. timeless g now i m other ∙ sym (timeless g t i m other) in
       record {
         time = c.time;
@@ -177,12 +150,12 @@ module _ (g : Setting) (start : Machine) (first : g.reading ≡ false) (blank : 
       }
 
   comes_timed : (n i to q t : ℕ) (m : Machine) (enough : Bool) → t < 2 ^ 64 → Comes g start n (record { machine = m; outcome = Next i }) q → slice_get g.statements i ≡ Some (Now to) →
-      ((now : ℕ) → step_tree (at_time g now) i m ≡ timing m i to enough now) → Comes g start (suc n) (honest (timing m i to enough t)) (q + questions (timing m i to enough t))
+      ((now : ℕ) → step_tree (at_time g now) i m ≡ timing g m i to enough now) → Comes g start (suc n) (honest (timing g m i to enough t)) (q + questions (timing g m i to enough t))
   comes_timed n i to q t m true lt c is each =
       let none = none_noted n i to q m c is in
       let before : (now : ℕ) → now < 2 ^ 64 → Agrees m.notes.now now = λ now h. subst (λ o. Agrees o now) (sym none) h in
-      let same : (now : ℕ) → sealed t ≡ sealed now → step_tree (at_time g now) i m ≡ timing m i to true t =
-      λ now e. each now ∙ ap (timing m i to true) (sym (ap (λ (c : Coded). c.value) e)) in
+      let same : (now : ℕ) → sealed t ≡ sealed now → step_tree (at_time g now) i m ≡ timing g m i to true t =
+      λ now e. each now ∙ ap (timing g m i to true) (sym (ap (λ (c : Coded). c.value) e)) in
       record {
         time = t;
         agrees = (refl, lt);
@@ -208,17 +181,17 @@ module _ (g : Setting) (start : Machine) (first : g.reading ≡ false) (blank : 
       by_statement (Untimed other) = comes_untimed n i q t m c other
 
 -- a time that the notes agree with before such a step, they agree with behind it
-agrees_timed : (m : Machine) (i to t : ℕ) (enough : Bool) → t < 2 ^ 64 → Agrees m.notes.now t → Agrees (honest (timing m i to enough t)).machine.notes.now t
-agrees_timed m i to t true lt a = (refl, lt)
-agrees_timed m i to t false lt a = a
+agrees_timed : (g : Setting) (m : Machine) (i to t : ℕ) (enough : Bool) → t < 2 ^ 64 → Agrees m.notes.now t → Agrees (honest (timing g m i to enough t)).machine.notes.now t
+agrees_timed g m i to t true lt a = (refl, lt)
+agrees_timed g m i to t false lt a = a
 
 pub agrees_on : (g : Setting) → g.reading ≡ false → (t i : ℕ) (m : Machine) → t < 2 ^ 64 → Agrees m.notes.now t → Agrees (honest (step_tree (at_time g t) i m)).machine.notes.now t
 agrees_on g first t i m lt a = by_statement (asks (slice_get g.statements i))
   where
     by_statement : Asks (slice_get g.statements i) → Agrees (honest (step_tree (at_time g t) i m)).machine.notes.now t
     by_statement (Timed to is) =
-        subst (λ (x : Tree After). Agrees (honest x).machine.notes.now t) (sym (timed_step g m i to t first is)) (agrees_timed m i to t (nat_lt m.made g.budget) lt a)
-    by_statement (Untimed other) = subst (λ o. Agrees o t) (sym (now_kept (at_time g t) i m (slice_get g.statements i) first other)) a
+        subst (λ (x : Tree After). Agrees (honest x).machine.notes.now t) (sym (timed_step g m i to t first is)) (agrees_timed g m i to t (nat_lt m.made g.budget) lt a)
+    by_statement (Untimed other) = subst (λ o. Agrees o t) (sym (now_kept (at_time g t) i m other)) a
 
 agrees_from : (g : Setting) → g.reading ≡ false → (t : ℕ) (m : Machine) (o : Outcome) → t < 2 ^ 64 → Agrees m.notes.now t → Agrees (onward_from (at_time g t) m o).machine.notes.now t
 agrees_from g first t m (Next i) lt a = agrees_on g first t i m lt a

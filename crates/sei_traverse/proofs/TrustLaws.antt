@@ -11,7 +11,7 @@ use Rattle.sei_stmt.specs.Honest.{after, HonestRun}
 use Rattle.sei_stmt.specs.Machine.{Machine, After}
 use Rattle.sei_stmt.specs.Machine.Outcome.{Next}
 use Rattle.sei_stmt.specs.Order.{finished}
-use Rattle.sei_stmt.specs.Passes.{notes_of}
+use Rattle.sei_stmt.specs.Passes.{Space, notes_of}
 use Rattle.sei_stmt.specs.Passes.IsTold.{ByNotes}
 use Rattle.sei_stmt.specs.Sound.{Serves}
 use Rattle.sei_stmt.specs.Sound.Serves.{Well, Unfit}
@@ -27,7 +27,7 @@ use Rattle.sei_traverse.specs.Sound.{IsServedBy, IsModelAnswer}
 use Rattle.sei_traverse.specs.Struck.{IsHonestResult}
 use Rattle.sei_traverse.specs.Trusted.{PassesGuard, second_setting, ReadsNotes, IsTrusted}
 use Rattle.sei_traverse.proofs.ReadingLaws.{Says, SaysNothing, seal_or_nothing, seal_says, nothing_says, something_said, alike_run, halting_goes, alike_asked, untimed_run, untimed_stage}
-use Rattle.sei_traverse.proofs.SoundLaws.{ends_at}
+use Rattle.sei_traverse.proofs.SoundLaws.{serves_at, ends_at}
 
 -- an index that reads, and is below the number of calls
 has_index : (calls nth : Option ℕ) → has_call calls nth ≡ true → (n : ℕ) × (count : ℕ) × (nth ≡ Some n) × (calls ≡ Some count) × (n < count)
@@ -39,7 +39,7 @@ call_index : (parsed : ℕ → Option Parsed) (nth : Option ℕ) (p : Parsed) �
 call_index parsed None p e = absurd cc
 call_index parsed (Some n) p e = (n, refl)
 
-module _ {B : Type 0} (Stands : List ℕ → B → Type 0) (answer : List ℕ → ℕ → B → ℕ → B × List ℕ) (e : Errand) (h : IsServedBy Stands answer e) where
+module _ {B : Type 0} (space : List ℕ → ℕ → Space) (Before Stands : List ℕ → B → Type 0) (answer : List ℕ → ℕ → B → ℕ → B × List ℕ) (e : Errand) (h : IsServedBy space Before Stands answer e) where
   has_called : has_sealed_call (given_in e) e.sealed ≡ true → call_of (given_in e) e.sealed ≡ Some e.call
   has_called has =
       let i = has_index (e.service.calls e.input) (read_of e.sealed.nth) has in
@@ -64,9 +64,9 @@ module _ {B : Type 0} (Stands : List ℕ → B → Type 0) (answer : List ℕ �
   serves_noted : (fit : PassesGuard e) (time slot : ℕ) → time < 2 ^ 64 →
       Serves (second_setting e) (λ ws. Stands ws (answer e.input (nth_of fit).0 h.held time).0) (answer e.input (nth_of fit).0 h.held time).1 (renoted (notes_of time slot) (first_start e))
   serves_noted fit time slot small =
-      h.handler.sound.serves e.input h.bytes (nth_of fit).0 e.call (parsed_at fit) (second_setting e)
+      serves_at space Before Stands answer e h.handler.sound h.bytes (nth_of fit).0 (parsed_at fit) (h.has (nth_of fit).0 (nth_of fit).1) (second_setting e)
       (record { statements_are = refl; rendered_are = refl; budget_is = refl; slots_are = refl; free_are = refl })
-      (record { intact = fit.intact; parsed = fit.called; lent = refl }) e.taken h.held h.stands time small (notes_of time slot) (ByNotes refl slot refl)
+      (record { intact = fit.intact; parsed = fit.called; lent = refl }) h.held h.begins time small (notes_of time slot) (ByNotes refl slot refl)
 
   module _ (fit : PassesGuard e) (notes : Notes) (end : Machine) (made : ℕ) (run : HonestRun (second_setting e) (renoted notes (first_start e)) end made) where
     going : (n : ℕ) → IsGoing (after (second_setting e) (renoted notes (first_start e)) n).outcome
@@ -124,7 +124,7 @@ module _ {B : Type 0} (Stands : List ℕ → B → Type 0) (answer : List ℕ �
     called_has = called_has;
     bucket = λ fit. h.handler.there e.input (nth_of fit).0 e.call (parsed_at fit);
     clock = h.clock;
-    ends = λ fit now small. ends_at Stands answer e h.handler.sound h.bytes (nth_of fit).0 (parsed_at fit) fit.intact fit.called h.held h.stands now small;
+    ends = λ fit now small. ends_at space Before Stands answer e h.handler.sound h.bytes (nth_of fit).0 (parsed_at fit) (h.has (nth_of fit).0 (nth_of fit).1) fit.intact fit.called h.held h.begins now small;
     reads = reads;
   }
 

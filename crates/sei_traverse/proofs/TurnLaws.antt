@@ -1,7 +1,7 @@
 -- A step, from its act and where it goes on.
 use Rattle.std.proofs.Common.{◌≡◌, ℕ, List, Option, Some, None, refl, sym, ap, ◌∙◌, subst}
 use Rattle.std.specs.Option.{option_map}
-use Rattle.mc_model.specs.declared.geometry.Geometry.{Geometry}
+use Rattle.sei_pass.specs.declared.spaces.PassSpace.{PassSpace}
 use Rattle.sei_fault.specs.declared.place.Act.{Act}
 use Rattle.sei_fault.specs.declared.place.Times.TheVariants.{Skip}
 use Rattle.sei_fault.specs.Question.{Question, Answer}
@@ -26,7 +26,7 @@ pub same_bucket : (a b : Option BucketWords) → place_of a ≡ place_of b → b
 same_bucket a b e = sym (bucket_by_place a) ∙ ap (option_map (λ (p : Place). p.bucket)) e ∙ bucket_by_place b
 
 -- so the act once more is given the same
-pub once_on : {S : Type 0} (gives : S → (q : Question) → Answer q → S → Type 0) (told : Option ℕ) (h : Service) (input : List ℕ) (g : Geometry) (a b : Option BucketWords) (w : Walk) (words : List ℕ) (s t : S) (y : Turn) →
+pub once_on : {S : Type 0} (gives : S → (q : Question) → Answer q → S → Type 0) (told : Option ℕ) (h : Service) (input : List ℕ) (g : PassSpace) (a b : Option BucketWords) (w : Walk) (words : List ℕ) (s t : S) (y : Turn) →
     place_of a ≡ place_of b → Timed gives told (λ now. once (given_of h input g (bucket_of a)) now w words) s t y → Timed gives told (λ now. once (given_of h input g (bucket_of b)) now w words) s t y
 once_on gives told h input g a b w words s t y e r = subst (λ (n : Option ℕ). Timed gives told (λ now. once (given_of h input g n) now w words) s t y) (same_bucket a b e) r
 

@@ -3,7 +3,7 @@ use Rattle.std.proofs.Common.{◌≡◌, ℕ, ◌+◌, ◌*◌, ◌-◌, ◌^◌
 use Rattle.sei_fault.specs.Counts.{Counts}
 use Rattle.sei_fault.specs.declared.place.Phase.{Phase}
 use Rattle.sei_fault.specs.declared.place.Phase.TheVariants.{First, Give, Send, Done}
-use Rattle.sei_pass.specs.State.{PassState, budget_of}
+use Rattle.sei_pass.specs.State.{PassState}
 use Rattle.sei_log.specs.declared.notes.Notes.{Notes}
 use Rattle.sei_stmt.specs.Machine.{Machine, After}
 use Rattle.sei_traverse.specs.declared.walk.Walk.{Walk}
@@ -13,16 +13,15 @@ use Rattle.sei_traverse.specs.OnWay.{IsClean, OnWay, AtEnd}
 use Rattle.sei_traverse.specs.Served.{HasReply, IsServed}
 use Rattle.sei_traverse.specs.State.{TraversalState, begun_traversal}
 use Rattle.sei_traverse.specs.Unstruck.{SecondIsDone, CleanIn, InGive, InSend, InDone, HasOutput}
-use Rattle.sei_traverse.specs.Walks.{log_room}
 use Rattle.sei_traverse.proofs.EdgeActs.{lends}
 use Rattle.sei_traverse.proofs.Settled.{bounded, bounded_end}
 use Rattle.sei_traverse.proofs.TimeLaws.{agrees_behind}
 
-pub way_begins : (e : Errand) (c : Counts) → OnWay e (begun_traversal e.geometry e.sealed) None c c
+pub way_begins : (e : Errand) (c : Counts) → OnWay e (begun_traversal e.space e.sealed) None c c
 way_begins e c = record {
   later = omega arith;
   clean = λ u. record {
-    geometry = refl;
+    space = refl;
     asked = 0;
     clean = record {
       in_phase = record {
@@ -50,7 +49,7 @@ relent e t old new begin now p is f way = record {
   clean = λ u.
       let c = way.clean u in
       record {
-        geometry = c.geometry;
+        space = c.space;
         asked = c.asked;
         clean = record { in_phase = subst (λ (q : Phase). CleanIn e t.walk new t.steps c.asked q) (sym is) (f t.steps c.asked (in_this e t old begin now p is c)) };
         counted = c.counted;
@@ -66,10 +65,10 @@ way_gives e t words begin now is way = relent e t (Some words) None begin now Se
     (λ steps asked i. record { is = i.is; time = i.time; made = i.made; end = i.end; answered = i.answered; index = i.index; words = search; number = i.number }) way
 
 pub way_ends : (e : Errand) (t : TraversalState) (lent : Option (List ℕ)) (begin now : Counts) → IsErrand e → OnWay e t lent begin now → now.struck ≡ begin.struck →
-    t.steps ≤ 2 * budget_of e.geometry + 3 * log_room e.geometry + 11
+    t.steps ≤ 2 * e.space.budget + 3 * e.space.log + 11
 way_ends e t lent begin now ie way u = let c = way.clean u in bounded e ie t.walk lent t.steps c.asked t.walk.place.phase c.clean.in_phase
 
-pub end_ends : (e : Errand) (t : TraversalState) (begin now : Counts) → AtEnd e t begin now → now.struck ≡ begin.struck → t.steps ≤ 2 * budget_of e.geometry + 3 * log_room e.geometry + 11
+pub end_ends : (e : Errand) (t : TraversalState) (begin now : Counts) → AtEnd e t begin now → now.struck ≡ begin.struck → t.steps ≤ 2 * e.space.budget + 3 * e.space.log + 11
 end_ends e t begin now way u = let c = way.clean u in bounded_end e t.walk t.steps c.asked c.finished
 
 reply_is : (e : Errand) (w : Walk) (end : Machine) → SecondIsDone e w end → w.second.bytes.items ≡ end.bytes.items

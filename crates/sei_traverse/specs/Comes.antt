@@ -4,7 +4,7 @@ use Rattle.sei_code.specs.Codes.{message_code}
 use Rattle.sei_code.specs.Coded.{sealed}
 use Rattle.sei_code.specs.declared.coded.Coded.{Coded}
 use Rattle.sei_log.specs.declared.notes.Notes.{Notes}
-use Rattle.sei_stmt.specs.Machine.{Machine, Setting, After}
+use Rattle.sei_stmt.specs.Machine.{Machine, Setting, After, with_notes, at_outcome}
 use Rattle.sei_stmt.specs.Honest.{after, asked_after, HonestRun}
 use Rattle.sei_stmt.specs.Order.{stage_after, finished}
 use Rattle.sei_stmt.specs.Sound.{RisesFrom}
@@ -19,10 +19,10 @@ again g = record g { reading = true }
 
 -- the machine with other notes
 abbrev pub renoted : Notes → Machine → Machine
-renoted notes m = record m { notes = notes }
+renoted notes m = with_notes m notes
 
 abbrev pub renoted_end : Notes → After → After
-renoted_end notes x = record { machine = renoted notes x.machine; outcome = x.outcome }
+renoted_end notes x = at_outcome (renoted notes x.machine) x.outcome
 
 -- a time of 64 bits that the noted one doesn't speak against
 abbrev pub Agrees : Option Coded → ℕ → Type 0

@@ -4,7 +4,7 @@ use Rattle.sei_code.specs.Codes.{message_code}
 use Rattle.sei_code.specs.Kept.{empty_kept}
 use Rattle.sei_log.specs.declared.log.Change.{Change}
 use Rattle.sei_log.specs.declared.notes.Notes.{Notes}
-use Rattle.mc_model.specs.declared.geometry.Geometry.{Geometry}
+use Rattle.sei_pass.specs.declared.spaces.PassSpace.{PassSpace}
 use Rattle.sei_stmt.specs.Handling.{Parsed}
 use Rattle.sei_stmt.specs.Honest.{HonestRun}
 use Rattle.sei_stmt.specs.Machine.{Machine, Setting}
@@ -17,14 +17,13 @@ use Rattle.sei_pass.specs.State.{new_pass}
 use Rattle.sei_pass.specs.Steps.{machine_of}
 use Rattle.sei_traverse.specs.Comes.{at_time, EndsAlways}
 use Rattle.sei_traverse.specs.Service.{Service, Given, given_of, has_sealed_call, call_of, setting_in}
-use Rattle.sei_traverse.specs.Walks.{log_room}
 
 -- a call of a sealed input, the words of its bucket when they were taken, and what the clock tells, where it tells
 -- the same at each step
 pub record Errand : Type 0 where
   pub service : Service
   pub input : List ℕ
-  pub geometry : Geometry
+  pub space : PassSpace
   pub sealed : Sealed
   pub call : Parsed
   pub taken : List ℕ
@@ -32,7 +31,7 @@ pub record Errand : Type 0 where
 
 -- what its steps are given
 abbrev pub given_in : Errand → Given
-given_in e = given_of e.service e.input e.geometry (Some e.call.bucket)
+given_in e = given_of e.service e.input e.space (Some e.call.bucket)
 
 abbrev pub no_notes : Notes
 no_notes = record { now = None; slot = None }
@@ -43,7 +42,7 @@ first_setting e = setting_in (given_in e) Making e.sealed 0
 
 -- where its first pass starts
 abbrev pub first_start : Errand → Machine
-first_start e = machine_of (new_pass e.geometry) e.taken (empty_kept Change (log_room e.geometry)) no_notes
+first_start e = machine_of (new_pass e.space) e.taken (empty_kept Change e.space.log) no_notes
 
 -- where a clock tells its answer, that is a number of 64 bits
 abbrev pub TellsTime : Option ℕ → Type 0
@@ -61,7 +60,7 @@ pub record IsErrand (e : Errand) : Type 0 where
   pub intact : is_intact e.sealed e.input ≡ true
   pub has : has_sealed_call (given_in e) e.sealed ≡ true
   pub called : call_of (given_in e) e.sealed ≡ Some e.call
-  pub bucket : e.call.bucket < e.geometry.buckets
+  pub bucket : e.call.bucket < e.space.geometry.buckets
   pub clock : TellsTime e.clock
   pub ends : EndsAlways (first_setting e) (first_start e)
 

@@ -37,7 +37,7 @@ pub data StruckCase (e : Errand) (w : Walk) (lent : Option (List ℕ)) (asked : 
 
 -- one strike fell, and so many questions were asked at least
 pub record IsStruck (e : Errand) (t : TraversalState) (lent : Option (List ℕ)) (begin now : Counts) : Type 0 where
-  pub geometry : t.geometry ≡ e.geometry
+  pub space : t.space ≡ e.space
   pub sealed : t.walk.sealed ≡ e.sealed
   pub asked : ℕ
   pub case : StruckCase e t.walk lent asked
@@ -74,7 +74,7 @@ WantsBucket e loan want = ⊤
 -- the wire is the reply
 abbrev pub Wanted : Errand → Walk → Option (List ℕ) → ℕ → Want → Type 0
 Wanted e w lent asked Nothing = ⊤
-Wanted e w lent asked (WantTake bucket) = (bucket ≡ w.wanted) × (bucket < e.geometry.buckets)
+Wanted e w lent asked (WantTake bucket) = (bucket ≡ w.wanted) × (bucket < e.space.geometry.buckets)
 Wanted e w lent asked WantEnter = On lent (λ words. IsHonestResult e w words asked)
 Wanted e w lent asked WantGive = On lent (λ words. IsHonestResult e w words asked)
 Wanted e w lent asked WantSend = HasCopyOfSome e w asked × (reply_of w ≢ [])
@@ -94,7 +94,7 @@ closing_want w phase = Nothing
 pub data ClosesOnce (e : Errand) (old new : Walk) (ended : Type 0) : Type 0 where
   Stays : new.gate.done ≡ old.gate.done → new.want ≡ Nothing → ClosesOnce e old new ended
   Closes : (phase : Phase) → old.place.phase ≡ phase → old.gate.done ≡ phase_number phase → new.gate.done ≡ old.gate.done + 1 → new.want ≡ closing_want new phase → ClosesOnce e old new ended
-  Lacks : old.gate.done ≡ 1 → new.gate.done ≡ 2 → new.want ≡ Nothing → e.geometry.buckets ≤ new.wanted → ended → ClosesOnce e old new ended
+  Lacks : old.gate.done ≡ 1 → new.gate.done ≡ 2 → new.want ≡ Nothing → e.space.geometry.buckets ≤ new.wanted → ended → ClosesOnce e old new ended
 
 -- the step aborts
 abbrev pub IsAborted : State → Type 0

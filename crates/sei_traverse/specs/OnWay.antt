@@ -47,7 +47,7 @@ TellsAs (Some time) told = told ≡ Some time
 
 -- the traversal stands where an honest one does, and so many questions were asked at least
 pub record IsClean (e : Errand) (t : TraversalState) (lent : Option (List ℕ)) (begin now : Counts) : Type 0 where
-  pub geometry : t.geometry ≡ e.geometry
+  pub space : t.space ≡ e.space
   pub asked : ℕ
   pub clean : Clean e t.walk lent t.steps asked
   pub counted : now.asked < 2 ^ 128 - 1 → begin.asked + asked ≤ now.asked

@@ -43,7 +43,7 @@ take_wanted g words w =
     else ends w words (Aborts (Range w.wanted))
 
 abbrev pub take_tree : Given → ℕ → Walk → List ℕ → Tree Acted
-take_tree g index w words = if index == 0 then store_wanted g w words else closing_then Take w words (take_wanted g.geometry words)
+take_tree g index w words = if index == 0 then store_wanted g w words else closing_then Take w words (take_wanted g.space.geometry words)
 
 -- Restore: the changes of the first log are undone, the last one first
 

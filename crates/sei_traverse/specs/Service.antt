@@ -1,7 +1,7 @@
 -- What a traversal is given of its handler, and with each step.
 use Rattle.std.specs.Prelude.{◌≡◌, ◌⊎◌, ℕ, Bool, false, nat_lt, List, Option, Some, None}
 use Rattle.sei_code.specs.Coded.{read_of}
-use Rattle.mc_model.specs.declared.geometry.Geometry.{Geometry}
+use Rattle.sei_pass.specs.declared.spaces.PassSpace.{PassSpace}
 use Rattle.sei_stmt.specs.declared.stmt.Stmt.{Stmt}
 use Rattle.sei_stmt.specs.Handling.{Parsed, parsed_bucket}
 use Rattle.sei_stmt.specs.Machine.{Setting}
@@ -19,15 +19,15 @@ pub record Service : Type 0 where
 abbrev pub service_of : List Stmt → (List ℕ → Option ℕ) → (List ℕ → ℕ → Option Parsed) → (List ℕ → Option (List ℕ)) → Service
 service_of statements calls parsed rendered = record { statements = statements; calls = calls; parsed = parsed; rendered = rendered }
 
--- what a step is given: the handler, the input, the geometry, and the number of the bucket that is lent
+-- what a step is given: the handler, the input, the space, and the number of the bucket that is lent
 pub record Given : Type 0 where
   pub service : Service
   pub input : List ℕ
-  pub geometry : Geometry
+  pub space : PassSpace
   pub lent : Option ℕ
 
-abbrev pub given_of : Service → List ℕ → Geometry → Option ℕ → Given
-given_of service input geometry lent = record { service = service; input = input; geometry = geometry; lent = lent }
+abbrev pub given_of : Service → List ℕ → PassSpace → Option ℕ → Given
+given_of service input space lent = record { service = service; input = input; space = space; lent = lent }
 
 -- there are calls, and the index reads and is below their number
 abbrev pub has_call : Option ℕ → Option ℕ → Bool
@@ -56,4 +56,4 @@ bucket_of_call g sealed = bucket_or_zero (parsed_bucket (call_of g sealed))
 
 -- the setting of a pass, where the clock answers this
 abbrev pub setting_in : Given → Which → Sealed → ℕ → Setting
-setting_in g which sealed now = setting_of which g.service.statements g.service.parsed g.service.rendered g.input sealed g.lent g.geometry now
+setting_in g which sealed now = setting_of which g.service.statements g.service.parsed g.service.rendered g.input sealed g.lent g.space now

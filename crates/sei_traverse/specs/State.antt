@@ -4,47 +4,47 @@ use Rattle.std.specs.Option.{option_and_then}
 use Rattle.sei_code.specs.Coded.{read_of}
 use Rattle.sei_code.specs.Kept.{empty_kept}
 use Rattle.sei_log.specs.declared.log.Change.{Change}
-use Rattle.mc_model.specs.declared.geometry.Geometry.{Geometry}
+use Rattle.sei_pass.specs.declared.spaces.PassSpace.{PassSpace}
 use Rattle.sei_fault.specs.declared.place.Phase.TheVariants.{Guard}
 use Rattle.sei_pass.specs.declared.given.Sealed.{Sealed}
-use Rattle.sei_pass.specs.State.{new_pass, bytes_room}
+use Rattle.sei_pass.specs.State.{new_pass}
 use Rattle.sei_traverse.specs.declared.turned.State.{State}
 use Rattle.sei_traverse.specs.declared.turned.State.TheVariants.{Went, Finished, Refused, Aborted}
 use Rattle.sei_traverse.specs.declared.turned.Want.TheVariants.{Nothing}
 use Rattle.sei_traverse.specs.declared.walk.Walk.{Walk}
 use Rattle.sei_traverse.specs.Acts.{at}
 use Rattle.sei_traverse.specs.Errand.{no_notes}
-use Rattle.sei_traverse.specs.Walks.{log_room, IsWalk}
+use Rattle.sei_traverse.specs.Walks.{IsWalk}
 
--- what its acts work on, its geometry, how many steps it made since it began, and whether it goes on
+-- what its acts work on, its space, how many steps it made since it began, and whether it goes on
 pub record TraversalState : Type 0 where
   pub walk : Walk
-  pub geometry : Geometry
+  pub space : PassSpace
   pub steps : ℕ
   pub running : Bool
 
 pub record IsTraversal (t : TraversalState) : Type 0 where
   pub walk : IsWalk t.walk
-  pub geometry : t.walk.first.geometry ≡ t.geometry
+  pub space : t.walk.first.space ≡ t.space
 
 -- before its first step
-abbrev pub begun_walk : Geometry → Sealed → Walk
-begun_walk g sealed = record {
+abbrev pub begun_walk : PassSpace → Sealed → Walk
+begun_walk space sealed = record {
   sealed = sealed;
   place = at Guard 0;
   gate = record { done = 0 };
   wanted = 0;
   want = Nothing;
-  first = new_pass g;
-  second = new_pass g;
-  first_log = empty_kept Change (log_room g);
-  second_log = empty_kept Change (log_room g);
+  first = new_pass space;
+  second = new_pass space;
+  first_log = empty_kept Change space.log;
+  second_log = empty_kept Change space.log;
   notes = no_notes;
-  wire = empty_kept ℕ (bytes_room g);
+  wire = empty_kept ℕ space.bytes;
 }
 
-abbrev pub begun_traversal : Geometry → Sealed → TraversalState
-begun_traversal g sealed = record { walk = begun_walk g sealed; geometry = g; steps = 0; running = true }
+abbrev pub begun_traversal : PassSpace → Sealed → TraversalState
+begun_traversal space sealed = record { walk = begun_walk space sealed; space = space; steps = 0; running = true }
 
 -- one step more; at the last value of a u64 the number stays
 abbrev pub one_more : ℕ → ℕ

@@ -10,7 +10,7 @@ use Rattle.sei_log.specs.declared.log.Change.{Change}
 use Rattle.sei_log.specs.declared.notes.Notes.{Notes}
 use Rattle.sei_stmt.specs.Asked.{first_asked}
 use Rattle.sei_stmt.specs.Honest.{after, HonestRun}
-use Rattle.sei_stmt.specs.Machine.{Machine, Setting, Outcome}
+use Rattle.sei_stmt.specs.Machine.{Machine, Setting, Outcome, with_log}
 use Rattle.sei_stmt.specs.Machine.Outcome.{Next, Halted}
 use Rattle.sei_stmt.specs.Passes.{notes_of}
 use Rattle.sei_pass.specs.declared.given.Which.TheVariants.{Reading}
@@ -24,11 +24,10 @@ use Rattle.sei_traverse.specs.Phases.{reply_of}
 use Rattle.sei_traverse.specs.Service.{given_of, setting_in}
 use Rattle.sei_traverse.specs.Trusted.{PassesGuard, second_setting}
 use Rattle.sei_traverse.specs.Unstruck.{FirstIsNew, SecondIsNew, FirstIsDone, first_questions}
-use Rattle.sei_traverse.specs.Walks.{log_room}
 
 -- the machine with this log in the place of its own
 abbrev pub relogged : Kept Change → Machine → Machine
-relogged log m = record m { log = log }
+relogged log m = with_log m log
 
 -- where a time is noted, it is a number of 64 bits
 abbrev pub NotesSmall : Option Coded → Type 0
@@ -90,7 +89,7 @@ FirstStands e w None asked = FirstIsNew e w
 FirstStands e w (Some words) asked = FirstStruck e w words asked
 
 pub record StruckInFirst (e : Errand) (w : Walk) (lent : Option (List ℕ)) (asked : ℕ) : Type 0 where
-  pub geometry : w.first.geometry ≡ e.geometry
+  pub space : w.first.space ≡ e.space
   pub second : SecondIsNew e w
   pub stands : FirstStands e w lent asked
 
@@ -117,7 +116,7 @@ pub record WasMisread (e : Errand) (w : Walk) (end : Machine) (asked : ℕ) : Ty
   pub time : ℕ
   pub made : ℕ
   pub whole : Whole e time made end
-  pub first : w.first ≡ pass_of (new_pass e.geometry) end
+  pub first : w.first ≡ pass_of (new_pass e.space) end
   pub notes : w.notes ≡ end.notes
   pub applies : applied w.first_log.items e.taken ≡ end.words
   pub questions : first_questions e time made ≤ asked
@@ -138,11 +137,11 @@ pub data RestoreStruck (e : Errand) (w : Walk) (words : List ℕ) (asked : ℕ) 
 
 -- where a pass starts, on these words and by these notes
 abbrev pub start_on : Errand → List ℕ → Notes → Machine
-start_on e words notes = machine_of (new_pass e.geometry) words (empty_kept Change (log_room e.geometry)) notes
+start_on e words notes = machine_of (new_pass e.space) words (empty_kept Change e.space.log) notes
 
 -- the setting of a second pass for which this bucket is lent
 abbrev pub setting_on : Errand → ℕ → Setting
-setting_on e bucket = setting_in (given_of e.service e.input e.geometry (Some bucket)) Reading e.sealed 0
+setting_on e bucket = setting_in (given_of e.service e.input e.space (Some bucket)) Reading e.sealed 0
 
 -- an honest second pass on these words, by the walk's notes, has come to where the walk stands
 abbrev pub ComesOn : Errand → Walk → List ℕ → List ℕ → Outcome → ℕ → Type 0

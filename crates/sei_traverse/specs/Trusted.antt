@@ -40,7 +40,7 @@ pub record IsTrusted (e : Errand) : Type 0 where
   -- the calls of an input are those that are below their number
   pub called_has : (p : Parsed) → call_of (given_in e) e.sealed ≡ Some p → has_sealed_call (given_in e) e.sealed ≡ true
   -- the call of a fit input is of a bucket that is there
-  pub bucket : PassesGuard e → e.call.bucket < e.geometry.buckets
+  pub bucket : PassesGuard e → e.call.bucket < e.space.geometry.buckets
   -- where the clock tells its answer, that is a number of 64 bits
   pub clock : TellsTime e.clock
   -- each honest first pass of a fit input ends well, whatever the clock answers

@@ -18,7 +18,6 @@ use Rattle.sei_traverse.specs.Acts.{at}
 use Rattle.sei_traverse.specs.PassActs.{pass_of, first_machine, second_machine}
 use Rattle.sei_traverse.specs.Comes.{at_time, again, renoted, Comes}
 use Rattle.sei_traverse.specs.Errand.{Errand, first_setting, first_start, no_notes, Follows, Whole}
-use Rattle.sei_traverse.specs.Walks.{log_room}
 
 -- the call that is sealed is the errand's, and as many phases are closed as stand before this one
 pub record IsOf (e : Errand) (w : Walk) (phase : Phase) : Type 0 where
@@ -27,22 +26,22 @@ pub record IsOf (e : Errand) (w : Walk) (phase : Phase) : Type 0 where
 
 -- a pass that did not begin
 pub record FirstIsNew (e : Errand) (w : Walk) : Type 0 where
-  pub first : w.first ≡ new_pass e.geometry
-  pub first_log : w.first_log ≡ empty_kept Change (log_room e.geometry)
+  pub first : w.first ≡ new_pass e.space
+  pub first_log : w.first_log ≡ empty_kept Change e.space.log
   pub notes : w.notes ≡ no_notes
 
 pub record SecondIsNew (e : Errand) (w : Walk) : Type 0 where
-  pub second : w.second ≡ new_pass e.geometry
-  pub second_log : w.second_log ≡ empty_kept Change (log_room e.geometry)
+  pub second : w.second ≡ new_pass e.space
+  pub second_log : w.second_log ≡ empty_kept Change e.space.log
 
 -- a pass that ended with this machine
 pub record FirstIsDone (e : Errand) (w : Walk) (end : Machine) : Type 0 where
-  pub first : w.first ≡ pass_of (new_pass e.geometry) end
+  pub first : w.first ≡ pass_of (new_pass e.space) end
   pub first_log : w.first_log ≡ end.log
   pub notes : w.notes ≡ end.notes
 
 pub record SecondIsDone (e : Errand) (w : Walk) (end : Machine) : Type 0 where
-  pub second : w.second ≡ pass_of (new_pass e.geometry) end
+  pub second : w.second ≡ pass_of (new_pass e.space) end
   pub second_log : w.second_log ≡ end.log
 
 -- how many steps stand before a phase at most, for a pass of n statements that logs k changes
@@ -95,7 +94,7 @@ pub record FirstWaits (e : Errand) (w : Walk) (steps asked : ℕ) : Type 0 where
   pub questions : asked ≡ 0
 
 pub record FirstRuns (e : Errand) (w : Walk) (words : List ℕ) (steps asked : ℕ) : Type 0 where
-  pub geometry : w.first.geometry ≡ e.geometry
+  pub space : w.first.space ≡ e.space
   pub made : ℕ
   pub comes : Comes (first_setting e) (first_start e) made (record { machine = first_machine w words; outcome = Next w.place.index }) asked
   pub told : Follows e.clock comes.time
@@ -137,7 +136,7 @@ pub record InSecond (e : Errand) (w : Walk) (lent : Option (List ℕ)) (steps as
   pub end : Machine
   pub whole : Whole e time made end
   pub first : FirstIsDone e w end
-  pub geometry : w.second.geometry ≡ e.geometry
+  pub space : w.second.space ≡ e.space
   pub words : List ℕ
   pub lent_are : lent ≡ Some words
   pub n : ℕ

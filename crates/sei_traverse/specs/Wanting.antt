@@ -14,7 +14,7 @@ use Rattle.sei_traverse.specs.State.{TraversalState, begun_traversal}
 -- the steps of a traversal since it began, each of which is isolated, whatever was lent and asked: what each of them wanted,
 -- in order, where the traversal stands behind them, and whether it goes on
 pub data Steps (e : Errand) (begin : Counts) : List Want → TraversalState → State → Type 0 where
-  Begins : Steps e begin [] (begun_traversal e.geometry e.sealed) Went
+  Begins : Steps e begin [] (begun_traversal e.space e.sealed) Went
   GoesOn : (wants : List Want) (old new : TraversalState) (loan left : Option BucketWords) (now : Counts) (state : State) →
       Steps e begin wants old Went → Isolates e old new loan left begin now new.walk.want state → Steps e begin (wants ++ new.walk.want ∷ []) new state
 

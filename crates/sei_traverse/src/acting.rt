@@ -3,17 +3,15 @@ ghost use Rattle.std.specs.Prelude.{◌≡◌, ◌+◌, ◌<◌, ◌≤◌, ◌^
 ghost use Rattle.sei_stmt.specs.Handling.{parsed_words};
 ghost use Rattle.sei_words.specs.Loan.{words_of, bucket_of, place_of, IsOf};
 ghost use Rattle.sei_pass.specs.Setting.{sealed_call};
-ghost use Rattle.sei_pass.specs.State.{input_room};
 ghost use Rattle.sei_traverse.specs.Acts.{acted};
 ghost use Rattle.sei_traverse.specs.Service.{service_of, given_of};
 ghost use Rattle.sei_traverse.specs.Step.{act_tree, Timed};
 ghost use Rattle.sei_traverse.specs.Walks.{IsWalk, Stays};
 
 use crate::walk::{Ending, Walk};
-use mc_model::Geometry;
 use sei_fault::{Core, Phase};
 use sei_outside::Clock;
-use sei_pass::Slots;
+use sei_pass::{PassSpace, Slots};
 use sei_stmt::Handler;
 
 impl Walk {
@@ -24,18 +22,18 @@ impl Walk {
         &mut self,
         hands: &H,
         input: &[u8],
-        g: &Geometry,
+        space: &PassSpace,
         lent: &mut L,
         core: &mut K,
         clock: &C,
     ) -> Ending
         requires walk { IsWalk self.old }
-        requires geometry { self.old.first.geometry ≡ g.now }
-        requires room { length (parsed_words (sealed_call (H.parsed hands.now input.now) self.old.sealed.nth)) ≤ input_room g.now }
+        requires space { self.old.first.space ≡ space.now }
+        requires room { length (parsed_words (sealed_call (H.parsed hands.now input.now) self.old.sealed.nth)) ≤ space.now.input }
         requires index { self.old.place.index + 1 < 2 ^ 64 }
-        requires lent { IsOf g.now (L.loan lent.old) }
+        requires lent { IsOf space.now.geometry (L.loan lent.old) }
         ensures act { Timed K.gives (C.told clock.now)
-            (λ now. act_tree (given_of (service_of (H.statements hands.now) (H.call_count hands.now) (H.parsed hands.now) (H.rendered hands.now)) input.now g.now (bucket_of (L.loan lent.old)))
+            (λ now. act_tree (given_of (service_of (H.statements hands.now) (H.call_count hands.now) (H.parsed hands.now) (H.rendered hands.now)) input.now space.now (bucket_of (L.loan lent.old)))
             now self.old (words_of (L.loan lent.old)))
             core.old core.new (acted self.new (words_of (L.loan lent.new)) result) }
         ensures lent { place_of (L.loan lent.new) ≡ place_of (L.loan lent.old) }
@@ -44,7 +42,7 @@ impl Walk {
     {
         match self.place.phase {
             Phase::Guard => self.guard(hands, input, core),
-            Phase::Take => self.take(hands, input, g, core),
+            Phase::Take => self.take(hands, input, space, core),
             Phase::First => self.first(hands, input, lent, core, clock),
             Phase::Restore => self.restore(lent, core),
             Phase::Second => self.second(hands, input, lent, core, clock),

@@ -2,8 +2,7 @@
 ghost use Rattle.std.specs.Prelude.{◌≡◌, ℕ, ◌+◌, ◌*◌, ◌≤◌, List, [], Option, Some, None};
 ghost use Rattle.sei_fault.specs.Counts.{Counts};
 ghost use Rattle.sei_fault.specs.declared.place.Phase.{Phase};
-ghost use Rattle.mc_model.specs.declared.geometry.Geometry.{Geometry};
-ghost use Rattle.sei_pass.specs.State.{budget_of};
+ghost use Rattle.sei_pass.specs.declared.spaces.PassSpace.{PassSpace};
 ghost use Rattle.sei_pass.specs.declared.given.Sealed.{Sealed};
 ghost use Rattle.sei_traverse.specs.Bounds.{most_steps, StepsWithin};
 ghost use Rattle.sei_traverse.specs.Errand.{Errand, IsErrand};
@@ -15,7 +14,6 @@ ghost use Rattle.sei_traverse.specs.Sound.{IsServedBy, IsModelAnswer};
 ghost use Rattle.sei_traverse.specs.State.{TraversalState, IsTraversal, begun_traversal};
 ghost use Rattle.sei_traverse.specs.Struck.{IsHonestResult};
 ghost use Rattle.sei_traverse.specs.Trusted.{IsTrusted, PassesGuard};
-ghost use Rattle.sei_traverse.specs.Walks.{log_room};
 ghost use Rattle.sei_traverse.specs.Wanting.{Steps, WantsOnce, wanted_in, all_wants};
 ghost use Rattle.sei_traverse.specs.declared.turned.State.{State};
 ghost use Rattle.sei_traverse.specs.declared.turned.Want.{Want};
@@ -26,7 +24,7 @@ use sei_stmt::Modeled;
 /// A traversal that begins for an errand is on its way. It stays so where the words that were taken
 /// are lent when they are wanted, and where they are lent no more once the bucket is given back.
 pub fn traversals_are_on_their_way()
-    ensures begins { (e : Errand) (c : Counts) → OnWay e (begun_traversal e.geometry e.sealed) None c c }
+    ensures begins { (e : Errand) (c : Counts) → OnWay e (begun_traversal e.space e.sealed) None c c }
     ensures lends { (e : Errand) (t : TraversalState) (begin now : Counts) → IsErrand e → t.walk.place.phase ≡ Phase.First →
         OnWay e t None begin now → OnWay e t (Some e.taken) begin now }
     ensures gives { (e : Errand) (t : TraversalState) (words : List ℕ) (begin now : Counts) → t.walk.place.phase ≡ Phase.Send →
@@ -36,9 +34,9 @@ pub fn traversals_are_on_their_way()
 /// Without a strike a traversal comes to its end: it makes no more steps than this.
 pub fn traversals_end()
     ensures running { (e : Errand) (t : TraversalState) (lent : Option (List ℕ)) (begin now : Counts) → IsErrand e → OnWay e t lent begin now → now.struck ≡ begin.struck →
-        t.steps ≤ 2 * budget_of e.geometry + 3 * log_room e.geometry + 11 }
+        t.steps ≤ 2 * e.space.budget + 3 * e.space.log + 11 }
     ensures ended { (e : Errand) (t : TraversalState) (begin now : Counts) → AtEnd e t begin now → now.struck ≡ begin.struck →
-        t.steps ≤ 2 * budget_of e.geometry + 3 * log_room e.geometry + 11 }
+        t.steps ≤ 2 * e.space.budget + 3 * e.space.log + 11 }
 {}
 
 /// What is known of a traversal that one strike at most has struck is known where it begins, for every
@@ -47,7 +45,7 @@ pub fn traversals_end()
 /// phases then, and nine. Where no strike fell, it is on its way. That it stays known behind each step
 /// is the clause `isolated` of `Traversal::step`.
 pub fn faults_are_isolated()
-    ensures begins { (e : Errand) (c : Counts) → Facts e (begun_traversal e.geometry e.sealed) None c c }
+    ensures begins { (e : Errand) (c : Counts) → Facts e (begun_traversal e.space e.sealed) None c c }
     ensures lends { (e : Errand) (t : TraversalState) (begin now : Counts) → IsTrusted e → t.walk.gate.done ≡ 2 →
         Facts e t None begin now → Facts e t (Some e.taken) begin now }
     ensures gives { (e : Errand) (t : TraversalState) (words : List ℕ) (begin now : Counts) → t.walk.gate.done ≡ 9 →
@@ -69,9 +67,9 @@ pub fn wants_come_once()
 /// With one strike at most since it began, a traversal makes no more steps than its bound, whatever
 /// its handler and its input are.
 pub fn steps_are_bounded()
-    ensures begins { (g : Geometry) (sealed : Sealed) (c : Counts) → StepsWithin (begun_traversal g sealed) c c }
+    ensures begins { (space : PassSpace) (sealed : Sealed) (c : Counts) → StepsWithin (begun_traversal space sealed) c c }
     ensures bounded { (t : TraversalState) (begin now : Counts) → IsTraversal t → StepsWithin t begin now → now.struck ≤ begin.struck + 1 →
-        t.steps ≤ most_steps t.geometry }
+        t.steps ≤ most_steps t.space }
 {}
 
 /// Without a strike, from the want of Enter on, both passes were made: the words are those that an
@@ -94,8 +92,8 @@ pub fn both_passes_are_made()
 /// there; where the input has the call, that is an errand as well. What is to be entered is the answer:
 /// the words stand for the state that it leaves at the noted time, and the reply is the answer's.
 pub fn sound_handlers_are_trusted<H: Modeled>()
-    ensures trusted { (h : H) (e : Errand) → IsServedBy (H.stands h) (H.answer h) e → IsTrusted e }
-    ensures errand { (h : H) (e : Errand) → IsServedBy (H.stands h) (H.answer h) e → PassesGuard e → IsErrand e }
-    ensures answered { (h : H) (e : Errand) (s : IsServedBy (H.stands h) (H.answer h) e) (w : Walk) (words : List ℕ) (asked : ℕ) →
+    ensures trusted { (h : H) (e : Errand) → IsServedBy (H.space h) (H.begins h) (H.stands h) (H.answer h) e → IsTrusted e }
+    ensures errand { (h : H) (e : Errand) → IsServedBy (H.space h) (H.begins h) (H.stands h) (H.answer h) e → PassesGuard e → IsErrand e }
+    ensures answered { (h : H) (e : Errand) (s : IsServedBy (H.space h) (H.begins h) (H.stands h) (H.answer h) e) (w : Walk) (words : List ℕ) (asked : ℕ) →
         IsHonestResult e w words asked → IsModelAnswer (H.stands h) (H.answer h) s.held e w words }
 {}

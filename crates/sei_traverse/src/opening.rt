@@ -1,6 +1,6 @@
 //! The acts before the first pass.
 ghost use Rattle.std.specs.Prelude.{◌≡◌, ℕ, List, Option};
-ghost use Rattle.mc_model.specs.declared.geometry.Geometry.{Geometry};
+ghost use Rattle.sei_pass.specs.declared.spaces.PassSpace.{PassSpace};
 ghost use Rattle.sei_code.specs.Coded.{read_of};
 ghost use Rattle.sei_fault.specs.Tree.{Runs};
 ghost use Rattle.sei_stmt.specs.Handling.{parsed_bucket};
@@ -15,6 +15,7 @@ use crate::walk::{Ending, Walk};
 use mc_model::Geometry;
 use sei_code::{Coded, message_code};
 use sei_fault::{AbortCause, Core, Phase, Place};
+use sei_pass::PassSpace;
 use sei_stmt::Handler;
 
 /// Whether the input is one whole request that has this call.
@@ -46,8 +47,8 @@ fn bucket_of_call<H: Handler>(hands: &H, input: &[u8], nth: Coded) -> u64
 impl Walk {
     /// Guard.
     pub fn guard<H: Handler, K: Core>(&mut self, hands: &H, input: &[u8], core: &mut K) -> Ending
-        ensures act { (g : Geometry) (lent : Option ℕ) (words : List ℕ) →
-            Runs K.gives (guard_tree (given_of (service_of (H.statements hands.now) (H.call_count hands.now) (H.parsed hands.now) (H.rendered hands.now)) input.now g lent) self.old words)
+        ensures act { (space : PassSpace) (lent : Option ℕ) (words : List ℕ) →
+            Runs K.gives (guard_tree (given_of (service_of (H.statements hands.now) (H.call_count hands.now) (H.parsed hands.now) (H.rendered hands.now)) input.now space lent) self.old words)
             core.old core.new (acted self.new words result) }
         ensures stays { Stays self.old self.new }
         ensures place { self.new.place ≡ self.old.place }
@@ -61,8 +62,8 @@ impl Walk {
 
     /// Guard, behind the test of the input's code.
     fn guard_call<H: Handler, K: Core>(&mut self, hands: &H, input: &[u8], core: &mut K) -> Ending
-        ensures act { (g : Geometry) (lent : Option ℕ) (words : List ℕ) →
-            Runs K.gives (guard_call (given_of (service_of (H.statements hands.now) (H.call_count hands.now) (H.parsed hands.now) (H.rendered hands.now)) input.now g lent) self.old words)
+        ensures act { (space : PassSpace) (lent : Option ℕ) (words : List ℕ) →
+            Runs K.gives (guard_call (given_of (service_of (H.statements hands.now) (H.call_count hands.now) (H.parsed hands.now) (H.rendered hands.now)) input.now space lent) self.old words)
             core.old core.new (acted self.new words result) }
         ensures stays { Stays self.old self.new }
         ensures place { self.new.place ≡ self.old.place }
@@ -84,8 +85,8 @@ impl Walk {
 
     /// Take 0.
     fn want_bucket<H: Handler, K: Core>(&mut self, hands: &H, input: &[u8], core: &mut K) -> Ending
-        ensures act { (g : Geometry) (lent : Option ℕ) (words : List ℕ) →
-            Runs K.gives (store_wanted (given_of (service_of (H.statements hands.now) (H.call_count hands.now) (H.parsed hands.now) (H.rendered hands.now)) input.now g lent) self.old words)
+        ensures act { (space : PassSpace) (lent : Option ℕ) (words : List ℕ) →
+            Runs K.gives (store_wanted (given_of (service_of (H.statements hands.now) (H.call_count hands.now) (H.parsed hands.now) (H.rendered hands.now)) input.now space lent) self.old words)
             core.old core.new (acted self.new words result) }
         ensures stays { Stays self.old self.new }
         ensures place { self.new.place ≡ self.old.place }
@@ -131,11 +132,11 @@ impl Walk {
         &mut self,
         hands: &H,
         input: &[u8],
-        g: &Geometry,
+        space: &PassSpace,
         core: &mut K,
     ) -> Ending
         ensures act { (lent : Option ℕ) (words : List ℕ) →
-            Runs K.gives (take_tree (given_of (service_of (H.statements hands.now) (H.call_count hands.now) (H.parsed hands.now) (H.rendered hands.now)) input.now g.now lent) self.old.place.index self.old words)
+            Runs K.gives (take_tree (given_of (service_of (H.statements hands.now) (H.call_count hands.now) (H.parsed hands.now) (H.rendered hands.now)) input.now space.now lent) self.old.place.index self.old words)
             core.old core.new (acted self.new words result) }
         ensures stays { Stays self.old self.new }
         ensures place { self.new.place ≡ self.old.place }
@@ -143,7 +144,7 @@ impl Walk {
         if self.place.index == 0 {
             self.want_bucket(hands, input, core)
         } else {
-            self.take_bucket(g, core)
+            self.take_bucket(&space.geometry, core)
         }
     }
 }

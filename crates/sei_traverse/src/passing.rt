@@ -28,9 +28,9 @@ impl Walk {
         clock: &C,
     ) -> Ending
         requires room { length (parsed_words (sealed_call (H.parsed hands.now input.now) self.old.sealed.nth)) ≤ self.old.first.input.room }
-        requires lent { IsOf self.old.first.geometry (L.loan lent.old) }
+        requires lent { IsOf self.old.first.space.geometry (L.loan lent.old) }
         ensures act { Timed K.gives (C.told clock.now)
-            (λ now. first_tree (given_of (service_of (H.statements hands.now) (H.call_count hands.now) (H.parsed hands.now) (H.rendered hands.now)) input.now self.old.first.geometry (bucket_of (L.loan lent.old)))
+            (λ now. first_tree (given_of (service_of (H.statements hands.now) (H.call_count hands.now) (H.parsed hands.now) (H.rendered hands.now)) input.now self.old.first.space (bucket_of (L.loan lent.old)))
             now self.old.place.index self.old (words_of (L.loan lent.old)))
             core.old core.new (acted self.new (words_of (L.loan lent.new)) result) }
         ensures lent { place_of (L.loan lent.new) ≡ place_of (L.loan lent.old) }
@@ -77,9 +77,9 @@ impl Walk {
         clock: &C,
     ) -> Ending
         requires room { length (parsed_words (sealed_call (H.parsed hands.now input.now) self.old.sealed.nth)) ≤ self.old.second.input.room }
-        requires lent { IsOf self.old.second.geometry (L.loan lent.old) }
+        requires lent { IsOf self.old.second.space.geometry (L.loan lent.old) }
         ensures act { Timed K.gives (C.told clock.now)
-            (λ now. second_tree (given_of (service_of (H.statements hands.now) (H.call_count hands.now) (H.parsed hands.now) (H.rendered hands.now)) input.now self.old.second.geometry (bucket_of (L.loan lent.old)))
+            (λ now. second_tree (given_of (service_of (H.statements hands.now) (H.call_count hands.now) (H.parsed hands.now) (H.rendered hands.now)) input.now self.old.second.space (bucket_of (L.loan lent.old)))
             now self.old.place.index self.old (words_of (L.loan lent.old)))
             core.old core.new (acted self.new (words_of (L.loan lent.new)) result) }
         ensures lent { place_of (L.loan lent.new) ≡ place_of (L.loan lent.old) }

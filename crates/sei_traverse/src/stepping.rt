@@ -4,17 +4,15 @@ ghost use Rattle.sei_fault.specs.Tree.{Runs, bound};
 ghost use Rattle.sei_stmt.specs.Handling.{parsed_words};
 ghost use Rattle.sei_words.specs.Loan.{words_of, bucket_of, place_of, IsOf};
 ghost use Rattle.sei_pass.specs.Setting.{sealed_call};
-ghost use Rattle.sei_pass.specs.State.{input_room};
 ghost use Rattle.sei_traverse.specs.Service.{service_of, given_of};
 ghost use Rattle.sei_traverse.specs.Step.{site_of, next_phase, is_halt, is_last, skipped, turn, arrival, is_end, plain_below, goes, goes_from, once, act_tree, twice, turn_at, turn_tree, Timed, TimedTwice};
 ghost use Rattle.sei_traverse.specs.Walks.{IsWalk, Stays};
 
 use crate::turned::{Abort, State, Want};
 use crate::walk::{Ending, Walk};
-use mc_model::Geometry;
 use sei_fault::{AbortCause, Act, Core, Phase, Place, Site, Times};
 use sei_outside::Clock;
-use sei_pass::Slots;
+use sei_pass::{PassSpace, Slots};
 use sei_stmt::Handler;
 
 /// The phase behind this one; behind the last one there is none.
@@ -174,23 +172,23 @@ impl Walk {
         &mut self,
         hands: &H,
         input: &[u8],
-        g: &Geometry,
+        space: &PassSpace,
         lent: &mut L,
         core: &mut K,
         clock: &C,
     ) -> State
         requires walk { IsWalk self.old }
-        requires geometry { self.old.first.geometry ≡ g.now }
-        requires room { length (parsed_words (sealed_call (H.parsed hands.now input.now) self.old.sealed.nth)) ≤ input_room g.now }
+        requires space { self.old.first.space ≡ space.now }
+        requires room { length (parsed_words (sealed_call (H.parsed hands.now input.now) self.old.sealed.nth)) ≤ space.now.input }
         requires index { self.old.place.index + 1 < 2 ^ 64 }
-        requires lent { IsOf g.now (L.loan lent.old) }
+        requires lent { IsOf space.now.geometry (L.loan lent.old) }
         ensures once { Timed K.gives (C.told clock.now)
-            (λ now. once (given_of (service_of (H.statements hands.now) (H.call_count hands.now) (H.parsed hands.now) (H.rendered hands.now)) input.now g.now (bucket_of (L.loan lent.old))) now self.old (words_of (L.loan lent.old)))
+            (λ now. once (given_of (service_of (H.statements hands.now) (H.call_count hands.now) (H.parsed hands.now) (H.rendered hands.now)) input.now space.now (bucket_of (L.loan lent.old))) now self.old (words_of (L.loan lent.old)))
             core.old core.new (turn self.new (words_of (L.loan lent.new)) result) }
         ensures lent { place_of (L.loan lent.new) ≡ place_of (L.loan lent.old) }
         ensures stays { Stays self.old self.new }
     {
-        let ending = self.act(hands, input, g, lent, core, clock);
+        let ending = self.act(hands, input, space, lent, core, clock);
         self.go_on(ending, core)
     }
 
@@ -200,24 +198,24 @@ impl Walk {
         &mut self,
         hands: &H,
         input: &[u8],
-        g: &Geometry,
+        space: &PassSpace,
         lent: &mut L,
         core: &mut K,
         clock: &C,
     ) -> State
         requires walk { IsWalk self.old }
-        requires geometry { self.old.first.geometry ≡ g.now }
-        requires room { length (parsed_words (sealed_call (H.parsed hands.now input.now) self.old.sealed.nth)) ≤ input_room g.now }
+        requires space { self.old.first.space ≡ space.now }
+        requires room { length (parsed_words (sealed_call (H.parsed hands.now input.now) self.old.sealed.nth)) ≤ space.now.input }
         requires index { self.old.place.index + 1 < 2 ^ 64 }
-        requires lent { IsOf g.now (L.loan lent.old) }
+        requires lent { IsOf space.now.geometry (L.loan lent.old) }
         ensures twice { TimedTwice K.gives (C.told clock.now)
-            (λ now later. bound (act_tree (given_of (service_of (H.statements hands.now) (H.call_count hands.now) (H.parsed hands.now) (H.rendered hands.now)) input.now g.now (bucket_of (L.loan lent.old))) now self.old (words_of (L.loan lent.old))) (twice (given_of (service_of (H.statements hands.now) (H.call_count hands.now) (H.parsed hands.now) (H.rendered hands.now)) input.now g.now (bucket_of (L.loan lent.old))) later))
+            (λ now later. bound (act_tree (given_of (service_of (H.statements hands.now) (H.call_count hands.now) (H.parsed hands.now) (H.rendered hands.now)) input.now space.now (bucket_of (L.loan lent.old))) now self.old (words_of (L.loan lent.old))) (twice (given_of (service_of (H.statements hands.now) (H.call_count hands.now) (H.parsed hands.now) (H.rendered hands.now)) input.now space.now (bucket_of (L.loan lent.old))) later))
             core.old core.new (turn self.new (words_of (L.loan lent.new)) result) }
         ensures lent { place_of (L.loan lent.new) ≡ place_of (L.loan lent.old) }
         ensures stays { Stays self.old self.new }
     {
-        match self.act(hands, input, g, lent, core, clock) {
-            Ending::Leads(_) => self.once(hands, input, g, lent, core, clock),
+        match self.act(hands, input, space, lent, core, clock) {
+            Ending::Leads(_) => self.once(hands, input, space, lent, core, clock),
             Ending::Refuses => State::Refused,
             Ending::Aborts(cause) => State::Aborted(Abort {
                 phase: self.place.phase,
@@ -233,18 +231,18 @@ impl Walk {
         act: Act,
         hands: &H,
         input: &[u8],
-        g: &Geometry,
+        space: &PassSpace,
         lent: &mut L,
         core: &mut K,
         clock: &C,
     ) -> State
         requires walk { IsWalk self.old }
-        requires geometry { self.old.first.geometry ≡ g.now }
-        requires room { length (parsed_words (sealed_call (H.parsed hands.now input.now) self.old.sealed.nth)) ≤ input_room g.now }
+        requires space { self.old.first.space ≡ space.now }
+        requires room { length (parsed_words (sealed_call (H.parsed hands.now input.now) self.old.sealed.nth)) ≤ space.now.input }
         requires index { self.old.place.index + 1 < 2 ^ 64 }
-        requires lent { IsOf g.now (L.loan lent.old) }
+        requires lent { IsOf space.now.geometry (L.loan lent.old) }
         ensures turned { TimedTwice K.gives (C.told clock.now)
-            (λ now later. turn_at (given_of (service_of (H.statements hands.now) (H.call_count hands.now) (H.parsed hands.now) (H.rendered hands.now)) input.now g.now (bucket_of (L.loan lent.old))) now later self.old (words_of (L.loan lent.old)) (Some act))
+            (λ now later. turn_at (given_of (service_of (H.statements hands.now) (H.call_count hands.now) (H.parsed hands.now) (H.rendered hands.now)) input.now space.now (bucket_of (L.loan lent.old))) now later self.old (words_of (L.loan lent.old)) (Some act))
             core.old core.new (turn self.new (words_of (L.loan lent.new)) result) }
         ensures lent { place_of (L.loan lent.new) ≡ place_of (L.loan lent.old) }
         ensures stays { Stays self.old self.new }
@@ -254,12 +252,12 @@ impl Walk {
             act,
         };
         match core.times(site) {
-            Times::Once => self.once(hands, input, g, lent, core, clock),
+            Times::Once => self.once(hands, input, space, lent, core, clock),
             Times::Skip => {
                 let to = self.skipped(act);
                 self.go(to, core)
             }
-            Times::Twice => self.twice(hands, input, g, lent, core, clock),
+            Times::Twice => self.twice(hands, input, space, lent, core, clock),
         }
     }
 
@@ -269,17 +267,17 @@ impl Walk {
         &mut self,
         hands: &H,
         input: &[u8],
-        g: &Geometry,
+        space: &PassSpace,
         lent: &mut L,
         core: &mut K,
         clock: &C,
     ) -> State
         requires walk { IsWalk self.old }
-        requires geometry { self.old.first.geometry ≡ g.now }
-        requires room { length (parsed_words (sealed_call (H.parsed hands.now input.now) self.old.sealed.nth)) ≤ input_room g.now }
-        requires lent { IsOf g.now (L.loan lent.old) }
+        requires space { self.old.first.space ≡ space.now }
+        requires room { length (parsed_words (sealed_call (H.parsed hands.now input.now) self.old.sealed.nth)) ≤ space.now.input }
+        requires lent { IsOf space.now.geometry (L.loan lent.old) }
         ensures turned { TimedTwice K.gives (C.told clock.now)
-            (λ now later. turn_tree (given_of (service_of (H.statements hands.now) (H.call_count hands.now) (H.parsed hands.now) (H.rendered hands.now)) input.now g.now (bucket_of (L.loan lent.old))) now later self.old (words_of (L.loan lent.old)))
+            (λ now later. turn_tree (given_of (service_of (H.statements hands.now) (H.call_count hands.now) (H.parsed hands.now) (H.rendered hands.now)) input.now space.now (bucket_of (L.loan lent.old))) now later self.old (words_of (L.loan lent.old)))
             core.old core.new (turn self.new (words_of (L.loan lent.new)) result) }
         ensures lent { place_of (L.loan lent.new) ≡ place_of (L.loan lent.old) }
         ensures stays { Stays self.old self.new }
@@ -292,7 +290,7 @@ impl Walk {
                     index: self.place.index,
                 },
             }),
-            Some(act) => self.turn(act, hands, input, g, lent, core, clock),
+            Some(act) => self.turn(act, hands, input, space, lent, core, clock),
         }
     }
 }

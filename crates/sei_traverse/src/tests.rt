@@ -1,5 +1,5 @@
 //! Traversals over a small table, with the plain core or with one planned fault, and a clock that is set.
-ghost use Rattle.std.specs.Prelude.{◌≡◌, true};
+ghost use Rattle.std.specs.Prelude.{◌≡◌, ◌≤◌, true};
 ghost use Rattle.sei_traverse.specs.State.{is_running};
 
 use super::*;
@@ -69,10 +69,15 @@ impl Handler for Service {
 /// Word 0 of the bucket is the state, and a call leaves the time there.
 impl Modeled for Service {
     ghost use Rattle.std.specs.Prelude.{◌≡◌, ℕ, [], ◌∷◌, Some, slice_get, if◌then◌else◌};
+    ghost use Rattle.sei_pass.specs.Spaces.{space_of};
 
     ghost State = { ℕ };
 
+    ghost begins = { λ _ words state. slice_get words 0 ≡ Some state };
+
     ghost stands = { λ _ words state. slice_get words 0 ≡ Some state };
+
+    ghost space = { λ _ _ _. space_of (record { buckets = 1; slots = 1; value_words = 3 }) };
 
     ghost answer = { λ s _ _ _ now. (now, if s.silent then [] else 65 ∷ []) };
 }
@@ -124,9 +129,11 @@ fn turn<K: Core>(
     core: &mut K,
 ) -> Turned
     requires running { traversal.old.running ≡ true }
-    requires laid_out { words.old.geometry ≡ traversal.old.geometry }
+    requires laid_out { words.old.geometry ≡ traversal.old.space.geometry }
+    requires room { 1 ≤ traversal.old.space.input }
     ensures running { traversal.new.running ≡ is_running result.state }
-    ensures laid_out { words.new.geometry ≡ traversal.new.geometry }
+    ensures laid_out { words.new.geometry ≡ traversal.new.space.geometry }
+    ensures room { 1 ≤ traversal.new.space.input }
 {
     let clock = SetClock { at: 1000 };
     if lent {
@@ -154,7 +161,8 @@ fn serve<K: Core>(
     lends: bool,
     core: &mut K,
 ) -> Result<Way, Fail>
-    requires { words.old.geometry ≡ traversal.old.geometry }
+    requires laid_out { words.old.geometry ≡ traversal.old.space.geometry }
+    requires room { 1 ≤ traversal.old.space.input }
 {
     traversal.begin(sealed, Mode::Plain);
     let mut wants = Vec::new(alloc);
@@ -227,7 +235,8 @@ fn serve_and_show<K: Core>(
     lends: bool,
     core: &mut K,
 ) -> Result<Served, Fail>
-    requires { words.old.geometry ≡ traversal.old.geometry }
+    requires laid_out { words.old.geometry ≡ traversal.old.space.geometry }
+    requires room { 1 ≤ traversal.old.space.input }
 {
     let way = serve(alloc, traversal, service, call, words, lends, core)?;
     let shown = show(alloc, traversal)?;

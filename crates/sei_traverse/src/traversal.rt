@@ -7,7 +7,7 @@ ghost use Rattle.sei_stmt.specs.Handling.{parsed_words};
 ghost use Rattle.sei_words.specs.Exits.{lent_at, lent_left};
 ghost use Rattle.sei_words.specs.Loan.{words_of, bucket_of, place_of, IsOf};
 ghost use Rattle.sei_pass.specs.Setting.{sealed_call};
-ghost use Rattle.sei_pass.specs.State.{input_room, bytes_room};
+ghost use Rattle.sei_pass.specs.Spaces.{pass_space};
 ghost use Rattle.sei_traverse.specs.Bounds.{most_steps, StepsWithin, StepsAfter};
 ghost use Rattle.sei_traverse.specs.Errand.{Errand, IsErrand};
 ghost use Rattle.sei_traverse.specs.Facts.{Facts, LendsWanted, Isolates};
@@ -18,7 +18,6 @@ ghost use Rattle.sei_traverse.specs.Service.{service_of, given_of};
 ghost use Rattle.sei_traverse.specs.State.{IsTraversal, begun_traversal, one_more, is_running, noted_time};
 ghost use Rattle.sei_traverse.specs.Step.{turn, turn_tree, TimedTwice};
 ghost use Rattle.sei_traverse.specs.Trusted.{IsTrusted};
-ghost use Rattle.sei_traverse.specs.Walks.{log_room};
 
 use crate::turned::{State, Turned, Want};
 use crate::walk::{NO_NOTES, Walk};
@@ -28,7 +27,7 @@ use sei_fault::{Core, Phase, Place};
 use sei_gate::Gate;
 use sei_log::{Notes, WriteLog};
 use sei_outside::Clock;
-use sei_pass::{Pass, Sealed, Slots};
+use sei_pass::{PassSpace, Sealed, Slots};
 use sei_stmt::Handler;
 use sei_words::{NoBucket, Words};
 use std::alloc::Global;
@@ -39,7 +38,7 @@ use std::marker::Model;
 #[derive(Drop)]
 pub struct Traversal {
     walk: Walk,
-    geometry: Geometry,
+    space: PassSpace,
     steps: u64,
     running: bool,
 }
@@ -49,19 +48,18 @@ impl Model for Traversal {
 
     ghost Value = { TraversalState };
 
-    ghost view = { λ t. record { walk = t.walk; geometry = t.geometry; steps = t.steps; running = t.running } };
+    ghost view = { λ t. record { walk = t.walk; space = t.space; steps = t.steps; running = t.running } };
 
-    ghost invariant = { λ t. IsTraversal (record { walk = t.walk; geometry = t.geometry; steps = t.steps; running = t.running }) };
+    ghost invariant = { λ t. IsTraversal (record { walk = t.walk; space = t.space; steps = t.steps; running = t.running }) };
 }
 
 /// How many steps a traversal makes at most, with one strike at most.
 pub fn most_steps(g: &Geometry) -> u64
     requires { IsValid g.now }
-    ensures { result ≡ most_steps g.now }
+    ensures { result ≡ most_steps (pass_space g.now) }
 {
-    let statements = 2000 + 400 * g.slots + 100 * g.value_words;
-    let changes = 48 + g.slots + g.value_words;
-    2 * statements + 6 * changes + 26
+    let space = PassSpace::new(g);
+    2 * space.budget + 6 * space.log + 26
 }
 
 impl Traversal {
@@ -69,12 +67,12 @@ impl Traversal {
     /// is allocated afterwards.
     pub fn new(alloc: Global, g: &Geometry) -> Result<Traversal, Memory>
         requires { IsValid g.now }
-        ensures geometry { IfOk result (λ t. t.geometry ≡ g.now) }
+        ensures space { IfOk result (λ t. t.space ≡ pass_space g.now) }
         ensures running { IfOk result (λ t. t.running ≡ false) }
     {
         Ok(Traversal {
             walk: Walk::new(alloc, g)?,
-            geometry: *g,
+            space: PassSpace::new(g),
             steps: 0,
             running: false,
         })
@@ -83,7 +81,7 @@ impl Traversal {
     /// Begins, for the call that is sealed. Replies are sent as their bytes alone.
     pub fn begin(&mut self, sealed: Sealed, mode: Mode)
         requires plain { mode ≡ Mode.Plain }
-        ensures { self.new ≡ begun_traversal self.old.geometry sealed }
+        ensures { self.new ≡ begun_traversal self.old.space sealed }
     {
         match mode {
             Mode::Plain => self.begin_plain(sealed),
@@ -92,7 +90,7 @@ impl Traversal {
     }
 
     fn begin_plain(&mut self, sealed: Sealed)
-        ensures { self.new ≡ begun_traversal self.old.geometry sealed }
+        ensures { self.new ≡ begun_traversal self.old.space sealed }
     {
         self.walk.sealed = sealed;
         self.walk.place = Place {
@@ -178,18 +176,18 @@ impl Traversal {
     ) -> Turned
         requires running { self.old.running ≡ true }
         // The input words of the passes have room for what the hands make of the input.
-        requires room { length (parsed_words (sealed_call (H.parsed hands.now input.now) self.old.walk.sealed.nth)) ≤ input_room self.old.geometry }
+        requires room { length (parsed_words (sealed_call (H.parsed hands.now input.now) self.old.walk.sealed.nth)) ≤ self.old.space.input }
         // What is lent is of the traversal's geometry.
-        requires lent { IsOf self.old.geometry (lent_at lent) }
+        requires lent { IsOf self.old.space.geometry (lent_at lent) }
         // The step is that of the definition, whatever the core answers.
         ensures turned { TimedTwice K.gives (C.told clock.now)
-            (λ now later. turn_tree (given_of (service_of (H.statements hands.now) (H.call_count hands.now) (H.parsed hands.now) (H.rendered hands.now)) input.now self.old.geometry (bucket_of (lent_at lent.entry)))
+            (λ now later. turn_tree (given_of (service_of (H.statements hands.now) (H.call_count hands.now) (H.parsed hands.now) (H.rendered hands.now)) input.now self.old.space (bucket_of (lent_at lent.entry)))
             now later self.old.walk (words_of (lent_at lent.entry)))
             core.old core.new (turn self.new.walk (words_of (lent_left lent.exit)) result.state) }
         ensures want { result.want ≡ self.new.walk.want }
         ensures lent { place_of (lent_left lent.exit) ≡ place_of (lent_at lent.entry) }
         ensures sealed { self.new.walk.sealed ≡ self.old.walk.sealed }
-        ensures geometry { self.new.geometry ≡ self.old.geometry }
+        ensures space { self.new.space ≡ self.old.space }
         ensures steps { self.new.steps ≡ one_more self.old.steps }
         ensures running { self.new.running ≡ is_running result.state }
         // Logs, outputs and copies keep their rooms.
@@ -219,7 +217,7 @@ impl Traversal {
             (K.counts core.new).struck ≤ begin.struck + 1 →
             Isolates e self.old self.new (lent_at lent.entry) (lent_left lent.exit) begin (K.counts core.new) result.want result.state }
         // Without a strike an input that does not pass the tests of Guard is refused.
-        ensures refused { IsUnfit (given_of (service_of (H.statements hands.now) (H.call_count hands.now) (H.parsed hands.now) (H.rendered hands.now)) input.now self.old.geometry None) self.old.walk →
+        ensures refused { IsUnfit (given_of (service_of (H.statements hands.now) (H.call_count hands.now) (H.parsed hands.now) (H.rendered hands.now)) input.now self.old.space None) self.old.walk →
             (K.counts core.new).struck ≡ (K.counts core.old).struck → result.state ≡ State.Refused }
     {
         match lent {
@@ -238,16 +236,16 @@ impl Traversal {
         core: &mut K,
         clock: &C,
     ) -> Turned
-        requires room { length (parsed_words (sealed_call (H.parsed hands.now input.now) self.old.walk.sealed.nth)) ≤ input_room self.old.geometry }
-        requires lent { IsOf self.old.geometry (L.loan lent.old) }
+        requires room { length (parsed_words (sealed_call (H.parsed hands.now input.now) self.old.walk.sealed.nth)) ≤ self.old.space.input }
+        requires lent { IsOf self.old.space.geometry (L.loan lent.old) }
         ensures turned { TimedTwice K.gives (C.told clock.now)
-            (λ now later. turn_tree (given_of (service_of (H.statements hands.now) (H.call_count hands.now) (H.parsed hands.now) (H.rendered hands.now)) input.now self.old.geometry (bucket_of (L.loan lent.old)))
+            (λ now later. turn_tree (given_of (service_of (H.statements hands.now) (H.call_count hands.now) (H.parsed hands.now) (H.rendered hands.now)) input.now self.old.space (bucket_of (L.loan lent.old)))
             now later self.old.walk (words_of (L.loan lent.old)))
             core.old core.new (turn self.new.walk (words_of (L.loan lent.new)) result.state) }
         ensures want { result.want ≡ self.new.walk.want }
         ensures lent { place_of (L.loan lent.new) ≡ place_of (L.loan lent.old) }
         ensures sealed { self.new.walk.sealed ≡ self.old.walk.sealed }
-        ensures geometry { self.new.geometry ≡ self.old.geometry }
+        ensures space { self.new.space ≡ self.old.space }
         ensures steps { self.new.steps ≡ one_more self.old.steps }
         ensures running { self.new.running ≡ is_running result.state }
         ensures rooms { IsTraversal self.new }
@@ -266,12 +264,10 @@ impl Traversal {
             LendsWanted self.old.walk (L.loan lent.old) → Facts e self.old (lent_words (L.loan lent.old)) begin (K.counts core.old) →
             (K.counts core.new).struck ≤ begin.struck + 1 →
             Isolates e self.old self.new (L.loan lent.old) (L.loan lent.new) begin (K.counts core.new) result.want result.state }
-        ensures refused { IsUnfit (given_of (service_of (H.statements hands.now) (H.call_count hands.now) (H.parsed hands.now) (H.rendered hands.now)) input.now self.old.geometry None) self.old.walk →
+        ensures refused { IsUnfit (given_of (service_of (H.statements hands.now) (H.call_count hands.now) (H.parsed hands.now) (H.rendered hands.now)) input.now self.old.space None) self.old.walk →
             (K.counts core.new).struck ≡ (K.counts core.old).struck → result.state ≡ State.Refused }
     {
-        let state = self
-            .walk
-            .step(hands, input, &self.geometry, lent, core, clock);
+        let state = self.walk.step(hands, input, &self.space, lent, core, clock);
         self.steps = self.steps.saturating_add(1);
         self.running = state == State::Went;
         Turned {

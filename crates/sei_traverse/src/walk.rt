@@ -4,8 +4,9 @@ ghost use Rattle.mc_model.specs.Server.{IsValid};
 ghost use Rattle.sei_code.specs.Kept.{empty_kept};
 ghost use Rattle.sei_fault.specs.Tree.{Runs};
 ghost use Rattle.sei_log.specs.declared.log.Change.{Change};
-ghost use Rattle.sei_pass.specs.State.{bytes_room, new_pass};
-ghost use Rattle.sei_traverse.specs.Walks.{log_room, IsWalk, Stays};
+ghost use Rattle.sei_pass.specs.Spaces.{pass_space};
+ghost use Rattle.sei_pass.specs.State.{new_pass};
+ghost use Rattle.sei_traverse.specs.Walks.{IsWalk, Stays};
 ghost use Rattle.sei_traverse.specs.Acts.{acted, closes};
 
 use crate::turned::Want;
@@ -14,7 +15,7 @@ use sei_code::{Buffer, Coded, Memory};
 use sei_fault::{AbortCause, Core, Phase, Place};
 use sei_gate::Gate;
 use sei_log::{Notes, WriteLog};
-use sei_pass::{Pass, Sealed};
+use sei_pass::{Pass, PassSpace, Sealed};
 use std::alloc::Global;
 
 /// The notes of a traversal that has asked for nothing yet.
@@ -53,36 +54,19 @@ pub struct Walk {
     pub wire: Buffer,
 }
 
-/// How many changes a pass may log.
-fn log_room(g: &Geometry) -> usize
-    requires { IsValid g.now }
-    ensures { result ≡ log_room g.now }
-{
-    (48 + g.slots + g.value_words) as usize
-}
-
-/// How many bytes the copy for the wire may have.
-fn wire_room(g: &Geometry) -> usize
-    requires { IsValid g.now }
-    ensures { result ≡ bytes_room g.now }
-{
-    (8 * g.value_words + 320) as usize
-}
-
 /// The logs of both passes, with nothing in them.
-fn logs(alloc: Global, g: &Geometry) -> Result<(WriteLog, WriteLog), Memory>
-    requires { IsValid g.now }
-    ensures { IfOk result (λ logs. (logs.0 ≡ empty_kept Change (log_room g.now)) × (logs.1 ≡ empty_kept Change (log_room g.now))) }
+fn logs(alloc: Global, space: &PassSpace) -> Result<(WriteLog, WriteLog), Memory>
+    ensures { IfOk result (λ logs. (logs.0 ≡ empty_kept Change space.now.log) × (logs.1 ≡ empty_kept Change space.now.log)) }
 {
-    let first = WriteLog::new(alloc, log_room(g))?;
-    let second = WriteLog::new(alloc, log_room(g))?;
+    let first = WriteLog::new(alloc, space.log as usize)?;
+    let second = WriteLog::new(alloc, space.log as usize)?;
     Ok((first, second))
 }
 
 /// Both passes, before their first statements.
 fn passes(alloc: Global, g: &Geometry) -> Result<(Pass, Pass), Memory>
     requires { IsValid g.now }
-    ensures { IfOk result (λ passes. (passes.0 ≡ new_pass g.now) × (passes.1 ≡ new_pass g.now)) }
+    ensures { IfOk result (λ passes. (passes.0 ≡ new_pass (pass_space g.now)) × (passes.1 ≡ new_pass (pass_space g.now))) }
 {
     let first = Pass::new(alloc, g)?;
     let second = Pass::new(alloc, g)?;
@@ -94,10 +78,11 @@ impl Walk {
     pub fn new(alloc: Global, g: &Geometry) -> Result<Walk, Memory>
         requires { IsValid g.now }
         ensures walk { IfOk result IsWalk }
-        ensures geometry { IfOk result (λ walk. walk.first.geometry ≡ g.now) }
+        ensures space { IfOk result (λ walk. walk.first.space ≡ pass_space g.now) }
     {
-        let (first_log, second_log) = logs(alloc, g)?;
-        let wire = Buffer::new(alloc, wire_room(g))?;
+        let space = PassSpace::new(g);
+        let (first_log, second_log) = logs(alloc, &space)?;
+        let wire = Buffer::new(alloc, space.bytes as usize)?;
         let (first, second) = passes(alloc, g)?;
         Ok(Walk {
             sealed: Sealed {

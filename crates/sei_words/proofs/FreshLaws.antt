@@ -3,7 +3,8 @@ use Rattle.std.proofs.Common.{◌≡◌, ℕ, zero, suc, ◌+◌, Bool, true, fa
 use Rattle.std.specs.Prelude.{replicate, slice_index}
 use Rattle.mc_model.specs.declared.geometry.Geometry.{Geometry}
 use Rattle.mc_model.specs.Bucket.{Item, empty_bucket}
-use Rattle.sei_words.specs.Layout.{slot_at, word_count, used_offset}
+use Rattle.mc_model.proofs.PublicBuckets.{empty_is_bucket}
+use Rattle.sei_words.specs.Layout.{moment_address, counter_address, slot_at, word_count, used_offset}
 use Rattle.sei_words.specs.Free.{IsFree}
 use Rattle.sei_words.specs.Stands.{StandsFor}
 
@@ -19,9 +20,10 @@ fresh_free g moment i = rw (zero_word (word_count g) (slot_at g i + used_offset)
 pub fresh_stands : (g : Geometry) → StandsFor g (replicate (word_count g) 0) empty_bucket
 fresh_stands g = record {
   size = length_zeros (word_count g);
-  moment = zero_word (word_count g) 0;
-  counter = zero_word (word_count g) 1;
-  map = tt;
+  moment = zero_word (word_count g) moment_address;
+  counter = zero_word (word_count g) counter_address;
+  model = empty_is_bucket;
+  rest = tt;
   holds = record {
     each = λ i lt taken. absurd (clash (fresh_free g 0 i) taken);
     every = λ k x found. absurd (no_item _ x refl found);

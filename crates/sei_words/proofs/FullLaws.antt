@@ -4,10 +4,10 @@ use Rattle.std.specs.Prelude.{slice_get}
 use Rattle.std.proofs.lemmas.Bool.{cases_eq}
 use Rattle.mc_model.specs.declared.geometry.Geometry.{Geometry}
 use Rattle.mc_model.specs.Bucket.{Item, Entries, Bucket, IsMap, lookup}
-use Rattle.mc_model.proofs.MapLaws.{entry_lookup, lookup_entry}
+use Rattle.mc_model.proofs.PublicBuckets.{entry_lookup, lookup_entry}
 use Rattle.sei_words.specs.Free.{IsTaken, IsFull}
 use Rattle.sei_words.specs.Stands.{Reads, StandsFor}
-use Rattle.sei_words.proofs.SlotLaws.{one_key}
+use Rattle.sei_words.proofs.PublicSlots.{one_key}
 
 -- n things with a place each below m, no two with the same, are at most m
 pub pigeon : (n m : ℕ) (R : ℕ → ℕ → Type 0) → ((i : ℕ) → i < n → (v : ℕ) × (v < m) × R i v) → ((i j v : ℕ) → i < n → j < n → R i v → R j v → i ≡ j) → n ≤ m
@@ -70,13 +70,13 @@ module _ (g : Geometry) (ws : List ℕ) (b : Bucket) (h : StandsFor g ws b) wher
   sits : (j : ℕ) → j < length b.items → (v : ℕ) × (v < g.slots) × Sits j v
   sits j lt =
       let e = entry_there b.items j lt in
-      let o = h.holds.every e.0.0 e.0.1 (entry_lookup b.items j e.0.0 e.0.1 h.map e.1) in
+      let o = h.holds.every e.0.0 e.0.1 (entry_lookup b.items j e.0.0 e.0.1 h.model.map e.1) in
       (o.0, o.1, (o.2, (e.0.0, e.0.1, e.1, o.3)))
 
   sits_one : (i j v : ℕ) → i < length b.items → j < length b.items → Sits i v → Sits j v → i ≡ j
   sits_one i j v li lj p q =
       let same = one_key g ws v q.1.0 p.1.0 q.1.1 p.1.1 q.1.3 p.1.3 in
-      one_entry b.items i j p.1.0 p.1.1 q.1.1 h.map p.1.2 (subst (λ k. slice_get b.items j ≡ Some (k, q.1.1)) same q.1.2)
+      one_entry b.items i j p.1.0 p.1.1 q.1.1 h.model.map p.1.2 (subst (λ k. slice_get b.items j ≡ Some (k, q.1.1)) same q.1.2)
 
   -- a free slot: fewer items than slots
   abbrev Shifted : ℕ → ℕ → ℕ → Type 0

@@ -1,25 +1,24 @@
--- What a change of one slot does to the map that slots hold, whatever their layout.
+-- What a change of one slot does to the map that slots hold, whatever their layout and whatever an item is.
 use Rattle.std.proofs.Common.{◌≡◌, ◌≢◌, ℕ, ◌<◌, ◌⊎◌, inl, inr, List, Option, Some, None, sym, ap, ◌∙◌, subst}
 use Rattle.std.proofs.lemmas.Bool.{cases_eq}
-use Rattle.mc_model.specs.Bucket.{Item}
 use Rattle.sei_words.specs.Holds.{Holds}
 
-abbrev pub Family : Type 1
-Family = ℕ → List ℕ → Item → Type 0
+abbrev pub Family : Type 0 → Type 1
+Family Item = ℕ → List ℕ → Item → Type 0
 
 -- slot j is as before; what a free slot reads as may change
-pub record Stays (Taken Taken' : ℕ → Type 0) (Has Has' : Family) (j : ℕ) : Type 0 where
+pub record Stays {Item : Type 0} (Taken Taken' : ℕ → Type 0) (Has Has' : Family Item) (j : ℕ) : Type 0 where
   pub taken : Taken j → Taken' j
   pub was_taken : Taken' j → Taken j
   pub has : (q : List ℕ) (x : Item) → Taken j → Has j q x → Has' j q x
   pub had : (q : List ℕ) (x : Item) → Taken' j → Has' j q x → Has j q x
 
 -- slot i alone changed, and the map at k alone. Before, i held k, or was free and k was absent; and so afterwards
-pub record OneChange (n : ℕ) (Taken Taken' : ℕ → Type 0) (Has Has' : Family) (f f' : List ℕ → Option Item) (i : ℕ) (k : List ℕ) : Type 0 where
+pub record OneChange {Item : Type 0} (n : ℕ) (Taken Taken' : ℕ → Type 0) (Has Has' : Family Item) (f f' : List ℕ → Option Item) (i : ℕ) (k : List ℕ) : Type 0 where
   pub within : i < n
   pub before : (Taken i × ((x : Item) × Has i k x)) ⊎ ((Taken i → ⊥) × (f k ≡ None))
   pub after : (Taken' i × ((x : Item) × Has' i k x × (f' k ≡ Some x))) ⊎ ((Taken' i → ⊥) × (f' k ≡ None))
-  pub off : (j : ℕ) → j ≢ i → Stays Taken Taken' Has Has' j
+  pub off : (j : ℕ) → j < n → j ≢ i → Stays Taken Taken' Has Has' j
   pub same : (q : List ℕ) → q ≢ k → f' q ≡ f q
   -- a slot has one key
   pub key : (j : ℕ) (p q : List ℕ) (x y : Item) → Has j p x → Has j q y → p ≡ q
@@ -32,7 +31,7 @@ no_some o x a b = absurd (cc)
 some_same : {X : Type 0} (a b : X) → Some a ≡ Some b → a ≡ b
 some_same a b e = cc
 
-module _ (n : ℕ) (Taken Taken' : ℕ → Type 0) (Has Has' : Family) (f f' : List ℕ → Option Item) (i : ℕ) (k : List ℕ) where
+module _ {Item : Type 0} (n : ℕ) (Taken Taken' : ℕ → Type 0) (Has Has' : Family Item) (f f' : List ℕ → Option Item) (i : ℕ) (k : List ℕ) where
   -- before the change, k is in no other slot
   nowhere_else : Holds n Taken Has f → OneChange n Taken Taken' Has Has' f f' i k → (j : ℕ) → j < n → j ≢ i → Taken j → (x : Item) → Has j k x → ⊥
   nowhere_else h c j lt ne taken x has = elim c.before [
@@ -47,7 +46,7 @@ module _ (n : ℕ) (Taken Taken' : ℕ → Type 0) (Has Has' : Family) (f f' : L
         | inl a ↦ (k, a.1.0, subst (λ z. Has' z k a.1.0) (sym e) a.1.1, a.1.2)
         | inr a ↦ absurd (a.0 (subst Taken' e taken))
       ]
-      | inr ne ↦ (let st = c.off j ne in let o = h.each j lt (st.was_taken taken) in
+      | inr ne ↦ (let st = c.off j lt ne in let o = h.each j lt (st.was_taken taken) in
           let apart : o.0 ≢ k = λ e. nowhere_else h c j lt ne (st.was_taken taken) o.1 (subst (λ q. Has j q o.1) e o.2) in
           (o.0, o.1, st.has o.0 o.1 (st.was_taken taken) o.2, c.same o.0 apart ∙ o.3))
     ];
@@ -62,7 +61,7 @@ module _ (n : ℕ) (Taken Taken' : ℕ → Type 0) (Has Has' : Family) (f f' : L
             | inl b ↦ apart (c.key o.0 q k x b.1.0 o.3 (subst (λ z. Has z k b.1.0) (sym same) b.1.1))
             | inr b ↦ b.0 (subst Taken same o.2)
           ] in
-          let st = c.off o.0 ne in
+          let st = c.off o.0 o.1 ne in
           (o.0, o.1, st.taken o.2, st.has q x o.2 o.3))
     ];
     one = λ a b la lb va vb q x y ha hb. elim (cases_eq a i) [
@@ -72,13 +71,13 @@ module _ (n : ℕ) (Taken Taken' : ℕ → Type 0) (Has Has' : Family) (f f' : L
       ]
       | inr na ↦ elim (cases_eq b i) [
         | inl eb ↦ absurd (other a la na va x (subst (λ p. Has' a p x) (is_k y vb (subst (λ z. Has' z q y) eb hb) eb) ha))
-        | inr nb ↦ (let sa = c.off a na in let sb = c.off b nb in h.one a b la lb (sa.was_taken va) (sb.was_taken vb) q x y (sa.had q x va ha) (sb.had q y vb hb))
+        | inr nb ↦ (let sa = c.off a la na in let sb = c.off b lb nb in h.one a b la lb (sa.was_taken va) (sb.was_taken vb) q x y (sa.had q x va ha) (sb.had q y vb hb))
       ]
     ];
   }
     where
       other : (j : ℕ) → j < n → j ≢ i → Taken' j → (x : Item) → Has' j k x → ⊥
-      other j lt ne taken x has = let st = c.off j ne in nowhere_else h c j lt ne (st.was_taken taken) x (st.had k x taken has)
+      other j lt ne taken x has = let st = c.off j lt ne in nowhere_else h c j lt ne (st.was_taken taken) x (st.had k x taken has)
 
       is_k : {q : List ℕ} {j : ℕ} (x : Item) → Taken' j → Has' i q x → j ≡ i → q ≡ k
       is_k x taken has e = elim c.after [

@@ -1,7 +1,7 @@
-pub mod LayoutLaws
+pub mod PublicLayout
+pub mod PublicSlots
 pub mod FreshLaws
 pub mod HoldsLaws
-pub mod SlotLaws
-pub mod ChangeLaws
 pub mod MomentLaws
 pub mod FullLaws
+pub mod PublicChanges

@@ -8,18 +8,9 @@ moment_address = 0
 abbrev pub counter_address : ℕ
 counter_address = 1
 
--- the number of words of a slot
-unfoldable pub width : Geometry → ℕ
-width g = 39 + g.value_words
-
--- the address at which slot i begins
-unfoldable pub slot_at : Geometry → ℕ → ℕ
-unfolding width
-slot_at g i = 2 + i * width g
-
--- the number of words of a bucket
-abbrev pub word_count : Geometry → ℕ
-word_count g = slot_at g g.slots
+-- the address at which the first slot begins
+abbrev pub first_slot : ℕ
+first_slot = 2
 
 -- the places in a slot, from where it begins; a slot whose first word is 0 is free
 
@@ -44,12 +35,29 @@ unique_offset = 5
 abbrev pub value_length_offset : ℕ
 value_length_offset = 6
 
--- the words of the key, of which there is room for 32
 abbrev pub key_offset : ℕ
 key_offset = 7
 
+-- the words that the longest key takes
+abbrev pub key_room : ℕ
+key_room = 32
+
+-- the words of a slot before its value
 abbrev pub value_offset : ℕ
-value_offset = 39
+value_offset = key_offset + key_room
+
+-- the number of words of a slot
+unfoldable pub width : Geometry → ℕ
+width g = value_offset + g.value_words
+
+-- the address at which slot i begins
+unfoldable pub slot_at : Geometry → ℕ → ℕ
+unfolding width
+slot_at g i = first_slot + i * width g
+
+-- the number of words of a bucket
+abbrev pub word_count : Geometry → ℕ
+word_count g = slot_at g g.slots
 
 -- a word of slot i
 abbrev pub field : Geometry → List ℕ → ℕ → ℕ → ℕ

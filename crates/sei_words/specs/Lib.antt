@@ -2,7 +2,9 @@ pub mod Layout
 pub mod Words
 pub mod Free
 pub mod Stored
+pub mod Value
 pub mod Holds
 pub mod Stands
+pub mod Changes
 pub mod Loan
 pub mod Exits

@@ -2,15 +2,16 @@
 use Rattle.std.specs.Prelude.{◌≡◌, ℕ, ◌+◌, ◌≤◌, List, length, slice_index}
 use Rattle.sei_code.specs.Codes.{fnv64}
 use Rattle.mc_model.specs.declared.geometry.Geometry.{Geometry}
-use Rattle.mc_model.specs.Bucket.{Item, Bucket, IsMap, lookup}
-use Rattle.sei_words.specs.Layout.{moment_address, counter_address, word_count, slot_at, field, hash_offset, key_length_offset, flags_offset, expiry_offset, unique_offset, value_length_offset, key_offset, value_offset}
+use Rattle.mc_model.specs.Bucket.{Item, Bucket, IsBucket, lookup}
+use Rattle.sei_words.specs.Layout.{moment_address, counter_address, word_count, slot_at, field, hash_offset, key_length_offset, flags_offset, expiry_offset, unique_offset, value_length_offset, key_offset, key_room}
 use Rattle.sei_words.specs.Free.{IsTaken}
 use Rattle.mc_model.specs.Packed.{AreBytes, words_for, pack}
 use Rattle.sei_words.specs.Stored.{StoredAt}
+use Rattle.sei_words.specs.Value.{HasValue, RestIsSound}
 use Rattle.sei_words.specs.Holds.{Holds}
 
 -- slot i reads as this key and item. Lengths are in bytes. The words of the key and of the value are
--- their packings, zero bytes of the last word too; the words behind them are free of meaning.
+-- their packings, zero bytes of the last word too; the words after them are free of meaning.
 pub record Reads (g : Geometry) (words : List ℕ) (i : ℕ) (k : List ℕ) (x : Item) : Type 0 where
   pub hash : field g words i hash_offset ≡ fnv64 k
   pub key_length : field g words i key_length_offset ≡ length k
@@ -19,16 +20,16 @@ pub record Reads (g : Geometry) (words : List ℕ) (i : ℕ) (k : List ℕ) (x :
   pub unique : field g words i unique_offset ≡ x.unique
   pub value_length : field g words i value_length_offset ≡ length x.value
   pub key_bytes : AreBytes k
-  pub key_fits : words_for (length k) ≤ 32
+  pub key_fits : words_for (length k) ≤ key_room
   pub key : StoredAt words (slot_at g i + key_offset) (pack k)
   pub value_bytes : AreBytes x.value
-  pub value_fits : words_for (length x.value) ≤ g.value_words
-  pub value : StoredAt words (slot_at g i + value_offset) (pack x.value)
+  pub value : HasValue g words i (pack x.value)
 
 -- the moment is that of the words, so what has expired is not in the bucket
 pub record StandsFor (g : Geometry) (words : List ℕ) (b : Bucket) : Type 0 where
   pub size : length words ≡ word_count g
   pub moment : slice_index words moment_address ≡ b.moment
   pub counter : slice_index words counter_address ≡ b.counter
-  pub map : IsMap b.items
+  pub model : IsBucket b
+  pub rest : RestIsSound g words
   pub holds : Holds g.slots (IsTaken g words b.moment) (Reads g words) (λ k. lookup k b.items)

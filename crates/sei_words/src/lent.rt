@@ -1,5 +1,5 @@
 //! The words of a bucket that are lent, or none.
-ghost use Rattle.std.specs.Prelude.{◌≡◌, ◌<◌, ℕ, IfSome, length, slice_get, slice_set, Option};
+ghost use Rattle.std.specs.Prelude.{◌≡◌, ◌<◌, ◌≤◌, ℕ, IfSome, length, slice_get, slice_set, Option};
 ghost use Rattle.sei_words.specs.Words.{BucketWords};
 ghost use Rattle.sei_words.specs.Loan.{words_of, bucket_of, place_of};
 
@@ -7,7 +7,7 @@ use crate::words::Words;
 
 /// The words of a bucket, where one is lent.
 pub trait Lent {
-    /// The bucket's words with its number and geometry, or `None` where no bucket is lent.
+    /// The bucket's words with its number and geometry, or `None` if no bucket is lent.
     ghost loan: { Self → Option BucketWords };
 
     /// The number of the bucket that is lent.
@@ -19,10 +19,11 @@ pub trait Lent {
         ensures found { result ≡ slice_get (words_of (loan self.now)) a }
         ensures below { IfSome result (λ _. a < length (words_of (loan self.now))) };
 
-    /// Writes the word at this address, where there is one.
+    /// Writes the word at this address, if there is one. Otherwise nothing of the words changes.
     fn set(&mut self, a: u64, w: u64)
         ensures word { a < length (words_of (loan self.old)) →
             words_of (loan self.new) ≡ slice_set (words_of (loan self.old)) a w }
+        ensures none { length (words_of (loan self.old)) ≤ a → words_of (loan self.new) ≡ words_of (loan self.old) }
         ensures place { place_of (loan self.new) ≡ place_of (loan self.old) };
 }
 

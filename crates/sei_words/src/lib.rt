@@ -2,6 +2,7 @@
 //! slots are free, and for which bucket of the model such words stand.
 #![tactic(auto)]
 
+pub mod layout;
 mod lent;
 #[cfg(test)]
 mod tests;

@@ -16,6 +16,14 @@ const TWO_SLOTS: Geometry = Geometry {
 };
 
 #[test]
+fn slots_follow_each_other(rt: HostRuntime) {
+    assert_eq!(rt; layout::width(&TWO_SLOTS), 44);
+    assert_eq!(rt; layout::slot_at(&TWO_SLOTS, 0), 2);
+    assert_eq!(rt; layout::slot_at(&TWO_SLOTS, 1), 46);
+    assert_eq!(rt; layout::slot_at(&TWO_SLOTS, 2), 90);
+}
+
+#[test]
 fn fresh_words_are_zero(rt: HostRuntime) -> Result<(), Fail> {
     let words = Words::new(rt.alloc(), &ONE_SLOT, 0)?;
     assert_eq!(rt; words.len(), 44);

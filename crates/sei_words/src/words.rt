@@ -1,41 +1,25 @@
 //! The words of one bucket.
-ghost use Rattle.std.specs.Prelude.{◌≡◌, ◌<◌, ◌≤◌, IfOk, IfSome, IfNone, length, slice_get, slice_set, nat_lt};
+ghost use Rattle.std.specs.Prelude.{◌≡◌, ◌<◌, ◌≤◌, ◌^◌, All, IfOk, IfSome, IfNone, length, slice_get, slice_set, nat_lt};
 ghost use Rattle.std.specs.Bool.{OnTrue, OnFalse};
 ghost use Rattle.mc_model.specs.Bucket.{empty_bucket};
 ghost use Rattle.mc_model.specs.Server.{IsValid};
-ghost use Rattle.sei_words.specs.Layout.{slot_at, word_count, field};
+ghost use Rattle.sei_words.specs.Layout.{word_count, field, value_offset};
 ghost use Rattle.sei_words.specs.Words.{fresh_words, with_word, IsLaidOut};
 ghost use Rattle.sei_words.specs.Free.{is_free, IsFirstFree, IsFull};
 ghost use Rattle.sei_words.specs.Stands.{StandsFor};
 
+use crate::layout::{EXPIRY, USED, slot_at};
 use mc_model::Geometry;
 use sei_code::Memory;
 use std::alloc::Global;
 use std::marker::Model;
-
-/// Where in a slot the word stands that says whether the slot is used.
-const USED: u64 = 0;
-
-/// Where in a slot the expiry stands.
-const EXPIRY: u64 = 4;
-
-/// The address at which the slot begins.
-#[tactic(auto, unfolding(crate::specs::Layout::slot_at, crate::specs::Layout::width))]
-fn slot_at(g: &Geometry, slot: u64) -> u64
-    requires valid { IsValid g.now }
-    requires slot { slot ≤ g.now.slots }
-    ensures value { result ≡ slot_at g.now slot }
-    ensures small { result < 2000000 }
-{
-    2 + slot * (39 + g.value_words)
-}
 
 /// The word at this offset in the slot.
 fn field(g: &Geometry, words: &[u64], slot: u64, offset: u64) -> u64
     requires valid { IsValid g.now }
     requires long { length words.now ≡ word_count g.now }
     requires slot { slot < g.now.slots }
-    requires offset { offset < 39 }
+    requires offset { offset < value_offset }
     ensures { result ≡ field g.now words.now slot offset }
 {
     let begin = slot_at(g, slot);
@@ -88,8 +72,10 @@ impl Words {
     pub fn len(&self) -> u64
         ensures value { result ≡ length self.now.words }
         ensures laid_out { IsLaidOut self.now }
+        ensures small { All (λ w. w < 2 ^ 64) self.now.words }
     {
-        self.words.len() as u64
+        let words = self.words.as_slice();
+        words.len() as u64
     }
 
     /// The word at this address, where there is one.

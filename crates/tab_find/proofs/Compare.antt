@@ -1,102 +1,112 @@
 -- What the comparison of the key words does.
-use Rattle.std.proofs.Common.{◌≡◌, ℕ, zero, suc, ◌+◌, ◌*◌, ◌<◌, ◌≤◌, ◌⊎◌, inl, inr, List, refl, arith, below_more}
+use Rattle.std.proofs.Common.{◌≡◌, ℕ, zero, suc, ◌+◌, ◌-◌, ◌*◌, ◌<◌, ◌≤◌, ◌⊎◌, inl, inr, List, length, refl, arith, below_more}
 use Rattle.std.specs.Prelude.{slice_index}
 use Rattle.mc_model.specs.declared.geometry.Geometry.{Geometry}
-use Rattle.sei_words.specs.Layout.{slot_at, field}
+use Rattle.mc_model.specs.Packed.{words_for, pack}
+use Rattle.mc_model.proofs.PublicPacking.{length_pack}
+use Rattle.sei_words.specs.Layout.{slot_at, word_count, field, key_offset, key_room, value_offset}
 use Rattle.sei_stmt.specs.Runs.{Given, RunState, tick}
-use Rattle.sei_stmt.specs.Programs.{WhileLt, Ends}
+use Rattle.sei_stmt.specs.Programs.{Ends}
 use Rattle.sei_stmt.specs.Touch.{Framed}
-use Rattle.sei_stmt.proofs.FrameLaws.{loop}
-use Rattle.tab_find.specs.Parts.{compare_turn, compare_key}
-use Rattle.tab_find.proofs.MachineLaws.{sum_is, word_is}
-use Rattle.tab_find.proofs.Ready.{IsReady, ready_framed, scratch, scratch_low, loads, goes_on}
+use Rattle.sei_stmt.proofs.FrameLaws.{repeat}
+use Rattle.tab_find.specs.FindPrograms.{compare_turn, compare_key}
+use Rattle.tab_find.specs.Inputs.{key_index}
+use Rattle.tab_find.specs.Registers.{r_key_end, r_place, r_base, r_address, r_index}
+use Rattle.tab_find.proofs.MachineLaws.{sum_is}
+use Rattle.tab_find.proofs.SlotReads.{word_stands, loads, goes_on}
+use Rattle.tab_find.proofs.Ready.{Seeks, IsReady, ready_framed, looking, looking_low}
 
-module _ (g : Geometry) (e : Given) (ws : List ℕ) (m i : ℕ) where
-  abbrev Same : ℕ → Type 0
-  Same j = field g ws i (7 + j) ≡ slice_index e.input (14 + j)
+module _ (g : Geometry) (e : Given) (ws : List ℕ) (m : ℕ) (key : List ℕ) (seeks : Seeks g e ws m key) (i : ℕ) (lt : i < g.slots) where
+  abbrev count : ℕ
+  count = words_for (length key)
 
-  -- all words before the next one are the same
-  record Going (count : ℕ) (t : RunState) : Type 0 where
-    fits : t.regs 14 ≡ 1
-    address : t.regs 12 ≡ slot_at g i + (7 + t.regs 15)
-    index : t.regs 16 ≡ 14 + t.regs 15
-    within : t.regs 15 ≤ count
-    same : (j : ℕ) → j < t.regs 15 → Same j
+  -- word j of the slot's key is that of the call's key
+  abbrev pub Same : ℕ → Type 0
+  Same j = field g ws i (key_offset + j) ≡ slice_index (pack key) j
+
+  -- the first words are the same, of which so many were compared
+  record Going (t : RunState) : Type 0 where
+    seen : ℕ
+    place : t.regs r_place ≡ slot_at g i
+    address : t.regs r_address ≡ slot_at g i + (key_offset + seen)
+    index : t.regs r_index ≡ key_index + seen
+    within : seen ≤ count
+    same : (j : ℕ) → j < seen → Same j
 
   -- a word was not
-  record Differs (count : ℕ) (t : RunState) : Type 0 where
-    fits : t.regs 14 ≡ 0
-    over : t.regs 15 ≡ count
-    place : ℕ
-    within : place < count
-    differs : Same place → ⊥
+  record Differs (t : RunState) : Type 0 where
+    place : t.regs r_place ≡ word_count g
+    over : t.regs r_index ≡ key_index + count
+    spot : ℕ
+    within : spot < count
+    differs : Same spot → ⊥
 
-  record Invariant (count bound n : ℕ) (t : RunState) : Type 0 where
-    left : count ≤ t.regs 15 + n
+  record Turned (bound n : ℕ) (t : RunState) : Type 0 where
+    left : key_index + count ≤ t.regs r_index + n
     steps : t.steps + 7 * n ≤ bound
-    state : Going count t ⊎ Differs count t
+    state : Going t ⊎ Differs t
 
   -- what the comparison found
   pub record Compared (bound : ℕ) (t : RunState) : Type 0 where
     pub steps : t.steps ≤ bound
-    pub found : ((t.regs 14 ≡ 1) × ((j : ℕ) → j < slice_index e.input 12 → Same j)) ⊎ ((t.regs 14 ≡ 0) × (((j : ℕ) → j < slice_index e.input 12 → Same j) → ⊥))
+    pub found : ((t.regs r_place ≡ slot_at g i) × ((j : ℕ) → j < count → Same j)) ⊎ ((t.regs r_place ≡ word_count g) × (((j : ℕ) → j < count → Same j) → ⊥))
 
-  module _ (s : RunState) (bound : ℕ) (r : IsReady g e ws m s) (lt : i < g.slots) where
-    turn : (n : ℕ) (t : RunState) → Framed scratch s t → Invariant (s.regs 7) bound n t → t.regs 15 < t.regs 7 → (k : ℕ) × (suc k ≡ n) × Ends e compare_turn (tick t) (Invariant (s.regs 7) bound k)
-    turn zero t f it h = let c = f.regs 7 refl in absurd (omega (arith, it.left, h, c))
-    turn (suc k) t f it h = (k, refl, by_state it.state)
-      where
-        c : t.regs 7 ≡ s.regs 7
-        c = f.regs 7 refl
-
-        rt : IsReady g e ws m t
-        rt = ready_framed scratch g e ws m s t refl refl scratch_low f r
-
-        by_state : (Going (s.regs 7) t ⊎ Differs (s.regs 7) t) → Ends e compare_turn (tick t) (Invariant (s.regs 7) bound k)
-        by_state (inr d) = absurd (omega (arith, d.over, h, c))
-        by_state (inl go) =
-            let j = t.regs 15 in
-            let few : j < 32 = omega (arith, h, rt.key_words, r.few) in (
-              field g ws i (7 + j),
-              loads g e ws m i t (t.regs 12) (7 + j) rt lt go.address (omega (arith, few)),
+  turn_ends : (t : RunState) (bound n : ℕ) → IsReady g ws m key t → (go : Going t) → go.seen < count → count ≤ go.seen + suc n → t.steps + 6 + 7 * n ≤ bound → Ends e compare_turn t (Turned bound n)
+  turn_ends t bound n r go more left steps =
+      let j = go.seen in
+      let call = seeks.call in
+      let room : key_offset + j < value_offset = omega (arith, more, call.fits) in (
+        field g ws i (key_offset + j),
+        loads g ws t.words i (t.regs r_address) (key_offset + j) seeks.size r.same lt go.address room,
+        (
+          r.parsed,
+          slice_index (pack key) j,
+          word_stands e.input (t.regs r_index) (key_index + j) (slice_index (pack key) j) go.index (omega (arith, call.room, more, call.fits)) (call.words j (omega (arith, more, length_pack key))),
+          (
+            λ eq. (
+              slot_at g i + (key_offset + j + 1),
+              goes_on g i _ _ (key_offset + j) 1 seeks.valid lt go.address r.constants.one (omega (arith, room)),
               (
-                rt.parsed,
-                slice_index e.input (14 + j),
-                word_is e.input (t.regs 16) (14 + j) go.index (omega (arith, r.input, few)),
-                (
-                  λ eq. (
-                    slot_at g i + (7 + j + 1),
-                    goes_on g e ws m i t _ _ (7 + j) 1 rt lt go.address rt.one (omega (arith, few)),
-                    (
-                      14 + j + 1,
-                      sum_is _ _ _ (omega (arith, go.index, rt.one)) (omega (arith, few)),
-                      (
-                        j + 1,
-                        sum_is _ _ _ (omega (arith, rt.one)) (omega (arith, few)),
-                        record { left = omega (arith, it.left); steps = omega (arith, it.steps); state = inl (record { fits = go.fits; address = omega arith; index = omega arith; within = omega (arith, h, c); same = below_more Same j go.same eq }) },
-                      ),
-                    ),
-                  ),
-                  λ ne. record { left = omega (arith, c); steps = omega (arith, it.steps); state = inr (record { fits = refl; over = c; place = j; within = omega (arith, h, c); differs = ne }) },
-                ),
+                key_index + (j + 1),
+                sum_is _ _ _ (omega (arith, go.index, r.constants.one)) (omega (arith, more, call.fits)),
+                record { left = omega (arith, left); steps = omega (arith, steps); state = inl (record { seen = j + 1; place = go.place; address = omega arith; index = refl; within = omega (arith, more); same = below_more Same j go.same eq }) },
               ),
-            )
+            ),
+            λ ne. record { left = omega (arith, r.loaded.key_end); steps = omega (arith, steps); state = inr (record { place = r.constants.ends; over = r.loaded.key_end; spot = j; within = more; differs = ne }) },
+          ),
+        ),
+      )
 
-  -- the loop, from its first test on
-  compare_loop : (s : RunState) (bound : ℕ) → IsReady g e ws m s → i < g.slots → s.regs 12 ≡ slot_at g i + 7 → s.regs 14 ≡ 1 → s.regs 15 ≡ 0 → s.regs 16 ≡ 14 → s.steps + 240 ≤ bound → Ends e (WhileLt 15 7 compare_turn) s (Compared bound)
-  compare_loop s bound r lt address fits j index steps =
-      loop e scratch 15 7 compare_turn s (Invariant (s.regs 7) (s.steps + 226)) (Compared bound) refl
-      (turn s (s.steps + 226) r lt)
-      (λ n t f it le. elim it.state [
-        | inl go ↦ record { steps = omega (arith, it.steps, steps); found = inl (go.fits, λ j h. go.same j (omega (arith, h, le, f.regs 7 refl, r.key_words))) }
-        | inr d ↦ record { steps = omega (arith, it.steps, steps); found = inr (d.fits, λ all. d.differs (all d.place (omega (arith, d.within, r.key_words)))) }
-      ])
-      32
-      (record { left = omega (arith, r.few, r.key_words); steps = omega arith; state = inl (record { fits = fits; address = omega (arith, address, j); index = omega (arith, index, j); within = omega (arith, j); same = λ k h. absurd (omega (arith, h, j)) }) })
+  module _ (s : RunState) (bound limit : ℕ) (r : IsReady g ws m key s) (more : bound + 1 ≤ limit) where
+    next : (n : ℕ) (t : RunState) → Framed looking s t → Turned bound n t → t.regs r_index < t.regs r_key_end → (k : ℕ) × (suc k ≡ n) × Ends e compare_turn (tick t) (Turned bound k)
+    next n t f it h = by_state n it.left it.steps it.state
+      where
+        rt : IsReady g ws m key t
+        rt = ready_framed looking g ws m key s t refl refl looking_low f r
 
-  pub compare_ends : (u : RunState) (bound : ℕ) → IsReady g e ws m u → i < g.slots → u.regs 11 ≡ slot_at g i → u.regs 14 ≡ 1 → u.steps + 244 ≤ bound → Ends e compare_key u (Compared bound)
-  compare_ends u bound r lt base fits steps = (
-    slot_at g i + (0 + 7),
-    goes_on g e ws m i u _ _ 0 7 r lt (omega (arith, base)) refl (omega arith),
-    compare_loop _ bound r lt (omega arith) fits refl refl (omega (arith, steps)),
-  )
+        by_state : (n : ℕ) → key_index + count ≤ t.regs r_index + n → t.steps + 7 * n ≤ bound → (Going t ⊎ Differs t) → (k : ℕ) × (suc k ≡ n) × Ends e compare_turn (tick t) (Turned bound k)
+        by_state zero left steps state = absurd (omega (arith, left, h, rt.loaded.key_end))
+        by_state (suc k) left steps (inl go) =
+            let there : Going (tick t) = record { seen = go.seen; place = go.place; address = go.address; index = go.index; within = go.within; same = go.same } in
+            (k, refl, turn_ends (tick t) bound k rt there (omega (arith, h, go.index, rt.loaded.key_end)) (omega (arith, left, go.index)) (omega (arith, steps)))
+        by_state (suc k) left steps (inr d) = absurd (omega (arith, d.over, h, rt.loaded.key_end))
+
+    done : (n : ℕ) (t : RunState) → Framed looking s t → Turned bound n t → t.regs r_key_end ≤ t.regs r_index → Compared limit (tick t)
+    done n t f it le =
+        let rt = ready_framed looking g ws m key s t refl refl looking_low f r in
+        elim it.state [
+          | inl go ↦ record { steps = omega (arith, it.steps, more); found = inl (go.place, λ j h. go.same j (omega (arith, h, le, go.index, rt.loaded.key_end))) }
+          | inr d ↦ record { steps = omega (arith, it.steps, more); found = inr (d.place, λ all. d.differs (all d.spot d.within)) }
+        ]
+
+  pub compare_ends : (s : RunState) (bound : ℕ) → IsReady g ws m key s → s.regs r_base ≡ slot_at g i → s.steps + 7 * key_room + 10 ≤ bound → Ends e compare_key s (Compared bound)
+  compare_ends s bound r base steps =
+      let most = s.steps + 7 * key_room + 9 in (
+        slot_at g i + (0 + key_offset),
+        goes_on g i _ _ 0 key_offset seeks.valid lt (omega (arith, base)) refl (omega arith),
+        repeat e looking r_index r_key_end compare_turn _ (Turned most) (Compared bound) refl
+            (next _ most bound r (omega (arith, steps)))
+            (done _ most bound r (omega (arith, steps)))
+            (key_room - 1)
+            (turn_ends _ most (key_room - 1) r (record { seen = 0; place = base; address = omega arith; index = omega arith; within = omega arith; same = λ j h. absurd (omega (arith, h)) }) (omega (arith, seeks.some)) (omega (arith, seeks.call.fits)) (omega arith)),
+      )

@@ -1,122 +1,142 @@
 -- What the find does.
-use Rattle.std.proofs.Common.{◌≡◌, ℕ, zero, suc, ◌+◌, ◌*◌, ◌<◌, ◌≤◌, ◌⊎◌, inl, inr, List, length, refl, sym, ap, ◌∙◌, subst, arith, below_more}
-use Rattle.std.specs.Prelude.{slice_index, false, not, nat_eq, nat_lt, ◌&&◌}
+use Rattle.std.proofs.Common.{◌≡◌, ℕ, zero, suc, ◌+◌, ◌-◌, ◌*◌, ◌<◌, ◌≤◌, ◌⊎◌, inl, inr, List, [], ◌∷◌, length, refl, sym, ap, ◌∙◌, arith, below_more}
+use Rattle.sei_code.specs.Codes.{fnv64}
 use Rattle.mc_model.specs.declared.geometry.Geometry.{Geometry}
-use Rattle.mc_model.specs.Server.{IsValid}
-use Rattle.sei_words.specs.Layout.{width, slot_at, word_count}
-use Rattle.sei_words.proofs.LayoutLaws.{slot_first, slot_next, slot_apart}
-use Rattle.sei_stmt.specs.Runs.{Given, RunState, tick}
-use Rattle.sei_stmt.specs.Programs.{WhileLt, Ends, IsParsed}
-use Rattle.sei_stmt.specs.Touch.{Touch, Framed}
-use Rattle.sei_stmt.proofs.FrameLaws.{loop, then_so}
-use Rattle.tab_find.specs.Parts.{look, find_turn, find_rest, find_program}
-use Rattle.tab_find.proofs.MachineLaws.{few_words, sum_is, word_is}
-use Rattle.tab_find.proofs.Ready.{IsReady, ready_framed, scratch, scratch_low, finder, finder_low}
-use Rattle.tab_find.proofs.Look.{Fits, Looked, look_ends}
+use Rattle.mc_model.specs.Packed.{words_for}
+use Rattle.std.proofs.lemmas.Bool.{cases_lt}
+use Rattle.sei_words.specs.Layout.{slot_at, word_count, first_slot}
+use Rattle.sei_words.proofs.PublicLayout.{slot_first, slot_next, slot_within, width_is, few_words}
+use Rattle.sei_stmt.specs.Runs.{Given, RunState, tick, write}
+use Rattle.sei_stmt.specs.Programs.{Block, RepeatLt, Ends, IsParsed}
+use Rattle.sei_stmt.specs.declared.stmt.Stmt.TheVariants.{Add}
+use Rattle.sei_stmt.specs.Touch.{Framed}
+use Rattle.sei_stmt.proofs.FrameLaws.{repeat, seq}
+use Rattle.tab_find.specs.Answers.{HasConstants}
+use Rattle.tab_find.specs.FindPrograms.{look, find_turn, find_program}
+use Rattle.tab_find.specs.Found.{HasKeyLoaded}
+use Rattle.tab_find.specs.Inputs.{key_length_index, hash_index, key_words_index, key_index}
+use Rattle.tab_find.specs.Registers.{r_one, r_width, r_place, r_base}
+use Rattle.tab_find.proofs.MachineLaws.{sum_is}
+use Rattle.tab_find.proofs.SlotReads.{word_stands}
+use Rattle.tab_find.proofs.Ready.{Seeks, IsReady, ready_framed, looking, looking_low, walking, walking_low}
+use Rattle.tab_find.proofs.Look.{Fits, Seen, Looked, look_ends}
 
--- registers 0 to 17 but the moment's
-abbrev pub finding : Touch
-finding = record { regs = λ r. not (nat_eq r 1) && nat_lt r 18; words = false; out = false; stage = false }
+-- Slots are left exactly as long as the next one begins before the end of all.
 
-module _ (g : Geometry) (e : Given) (ws : List ℕ) (m : ℕ) where
+slot_below : (g : Geometry) (i : ℕ) → i ≤ g.slots → slot_at g i < word_count g → i < g.slots
+slot_below g i le lt = elim (cases_lt i g.slots) [
+  | inl h ↦ h
+  | inr ge ↦ (let same : i ≡ g.slots = omega arith in absurd (omega (arith, lt, ap (slot_at g) same)))
+]
+
+slot_last : (g : Geometry) (i : ℕ) → i ≤ g.slots → word_count g ≤ slot_at g i → g.slots ≤ i
+slot_last g i le ge = elim (cases_lt i g.slots) [
+  | inl h ↦ absurd (omega (arith, ge, slot_within g i h, width_is g))
+  | inr h ↦ h
+]
+
+module _ (g : Geometry) (e : Given) (ws : List ℕ) (m : ℕ) (key : List ℕ) (seeks : Seeks g e ws m key) where
   -- no slot below i fits
   abbrev pub NoneBelow : ℕ → Type 0
-  NoneBelow i = (k : ℕ) → k < i → Fits g ws e.input m k → ⊥
+  NoneBelow i = (k : ℕ) → k < i → Fits g ws m key k → ⊥
 
-  -- the slot that fits, and where it begins
-  pub record Hit (found place : ℕ) : Type 0 where
-    pub within : found < g.slots
-    pub begins : place ≡ slot_at g found
-    pub fits : Fits g ws e.input m found
+  -- a slot fits, and begins at this place
+  pub record Hit (place : ℕ) : Type 0 where
+    pub slot : ℕ
+    pub within : slot < g.slots
+    pub begins : place ≡ slot_at g slot
+    pub fits : Fits g ws m key slot
 
-  record Searching (t : RunState) : Type 0 where
-    found : t.regs 8 ≡ g.slots
-    within : t.regs 10 ≤ g.slots
-    base : t.regs 11 ≡ slot_at g (t.regs 10)
-    none : NoneBelow (t.regs 10)
+  -- the slots before the one at the base do not fit
+  record Searching (n : ℕ) (t : RunState) : Type 0 where
+    looked : ℕ
+    left : g.slots ≤ looked + n
+    within : looked ≤ g.slots
+    base : t.regs r_base ≡ slot_at g looked
+    place : t.regs r_place ≡ word_count g
+    none : NoneBelow looked
 
-  record Invariant (bound n : ℕ) (t : RunState) : Type 0 where
-    left : g.slots ≤ t.regs 10 + n
+  -- the slot before the one at the base fits
+  record Stopped (t : RunState) : Type 0 where
+    hit : Hit (t.regs r_place)
+    over : t.regs r_place ≤ t.regs r_base
+
+  record Turned (bound n : ℕ) (t : RunState) : Type 0 where
     steps : t.steps + 300 * n ≤ bound
-    state : Searching t ⊎ (Hit (t.regs 8) (t.regs 9) × (g.slots ≤ t.regs 10))
+    state : Searching n t ⊎ Stopped t
 
   pub record Found (bound : ℕ) (t : RunState) : Type 0 where
     pub steps : t.steps ≤ bound
-    -- the constants that a caller uses further
-    pub ready : IsReady g e ws m t
-    pub result : Hit (t.regs 8) (t.regs 9) ⊎ ((t.regs 8 ≡ g.slots) × NoneBelow g.slots)
+    pub loaded : HasKeyLoaded key t
+    pub result : Hit (t.regs r_place) ⊎ ((t.regs r_place ≡ word_count g) × NoneBelow g.slots)
 
-  -- what is done with what the look found
-  rest_ends : (u : RunState) (bound n i : ℕ) → IsReady g e ws m u → i < g.slots → u.regs 8 ≡ g.slots → u.regs 10 ≡ i → u.regs 11 ≡ slot_at g i → NoneBelow i → g.slots ≤ i + suc n → u.steps + 10 + 300 * n ≤ bound →
-      (((u.regs 14 ≡ 1) × Fits g ws e.input m i) ⊎ ((u.regs 14 ≡ 0) × (Fits g ws e.input m i → ⊥))) → Ends e find_rest u (Invariant bound n)
-  rest_ends u bound n i r lt found at base none left steps (inl h) = (
-    λ fits. (
-      u.regs 3 + 1,
-      sum_is _ _ _ (omega (arith, r.one)) (omega (arith, r.slots, r.valid.few_slots)),
-      (
-        slot_at g i + width g,
-        sum_is _ _ _ (omega (arith, base, r.wide)) (omega (arith, slot_apart g i g.slots lt, few_words g r.valid)),
-        record { left = omega (arith, r.slots); steps = omega (arith, steps); state = inr (record { within = omega (arith, at, lt); begins = base ∙ ap (slot_at g) (sym at); fits = subst (Fits g ws e.input m) (sym at) h.1 }, omega (arith, r.slots)) },
-      ),
-    ),
-    λ bad. absurd (bad (h.0 ∙ sym r.one)),
-  )
-  rest_ends u bound n i r lt found at base none left steps (inr h) = (
-    λ fits. absurd (omega (arith, fits, h.0, r.one)),
-    λ bad. (
-      i + 1,
-      sum_is _ _ _ (omega (arith, at, r.one)) (omega (arith, lt, r.valid.few_slots)),
-      (
+  -- one slot
+  turn_ends : (t : RunState) (bound n i : ℕ) → IsReady g ws m key t → i < g.slots → g.slots ≤ i + suc n → t.regs r_base ≡ slot_at g i → t.regs r_place ≡ word_count g → NoneBelow i → t.steps + 280 + 300 * n ≤ bound → Ends e find_turn t (Turned bound n)
+  turn_ends t bound n i r lt left base place none steps =
+      seq e looking look (Block (Add r_base r_base r_width ∷ [])) t (Looked g e ws m key seeks i lt (t.steps + 274)) (Turned bound n) refl
+      (look_ends g e ws m key seeks i lt t (t.steps + 274) r base place (omega arith))
+      (λ u f l.
+      let ru = ready_framed looking g ws m key t u refl refl looking_low f r in (
         slot_at g (i + 1),
-        sum_is _ _ _ (omega (arith, base, r.wide, slot_next g i)) (omega (arith, slot_next g i, slot_apart g i g.slots lt, few_words g r.valid)),
-        record { left = omega (arith, left); steps = omega (arith, steps); state = inl (record { found = found; within = omega (arith, lt); base = refl; none = below_more (λ k. Fits g ws e.input m k → ⊥) i none h.1 }) },
-      ),
-    ),
-  )
+        sum_is _ _ _ (omega (arith, f.regs r_base refl, base, ru.constants.wide, slot_next g i)) (omega (arith, slot_next g i, slot_within g i lt, few_words g seeks.valid)),
+        by_found u l.steps l.found,
+      ))
+    where
+      by_found : (u : RunState) → u.steps ≤ t.steps + 274 → Seen g e ws m key seeks i lt (u.regs r_place) → Turned bound n (write u r_base (slot_at g (i + 1)))
+      by_found u few (inl h) = record { steps = omega (arith, few, steps); state = inr (record { hit = record { slot = i; within = lt; begins = h.0; fits = h.1 }; over = omega (arith, h.0, slot_next g i) }) }
+      by_found u few (inr h) = record { steps = omega (arith, few, steps); state = inl (record { looked = i + 1; left = omega (arith, left); within = omega (arith, lt); base = refl; place = h.0; none = below_more (λ k. Fits g ws m key k → ⊥) i none h.1 }) }
 
-  module _ (s : RunState) (bound : ℕ) (r : IsReady g e ws m s) where
-    turn : (n : ℕ) (t : RunState) → Framed finder s t → Invariant bound n t → t.regs 10 < t.regs 3 → (k : ℕ) × (suc k ≡ n) × Ends e find_turn (tick t) (Invariant bound k)
-    turn zero t f it h = let c = f.regs 3 refl in absurd (omega (arith, it.left, h, c, r.slots))
-    turn (suc k) t f it h = (k, refl, by_state it.state)
+  module _ (s : RunState) (bound limit : ℕ) (r : IsReady g ws m key s) (more : bound + 1 ≤ limit) where
+    next : (n : ℕ) (t : RunState) → Framed walking s t → Turned bound n t → t.regs r_base < t.regs r_place → (k : ℕ) × (suc k ≡ n) × Ends e find_turn (tick t) (Turned bound k)
+    next n t f it h = by_state n it.steps it.state
       where
-        rt : IsReady g e ws m t
-        rt = ready_framed finder g e ws m s t refl refl finder_low f r
+        rt : IsReady g ws m key t
+        rt = ready_framed walking g ws m key s t refl refl walking_low f r
 
-        by_state : (Searching t ⊎ (Hit (t.regs 8) (t.regs 9) × (g.slots ≤ t.regs 10))) → Ends e find_turn (tick t) (Invariant bound k)
-        by_state (inr d) = absurd (omega (arith, d.1, h, rt.slots))
-        by_state (inl go) =
-            let lt : t.regs 10 < g.slots = omega (arith, h, rt.slots) in
-            then_so e scratch look (tick t) (Looked g e ws m (t.regs 10) lt (t.steps + 281)) (λ u. Ends e find_rest u (Invariant bound k)) refl
-            (λ u fu l. rest_ends u bound k (t.regs 10) (ready_framed scratch g e ws m (tick t) u refl refl scratch_low fu rt) lt (fu.regs 8 refl ∙ go.found) (fu.regs 10 refl) (fu.regs 11 refl ∙ go.base) go.none (it.left) (omega (arith, l.steps, it.steps)) l.found)
-            (look_ends g e ws m (t.regs 10) lt (tick t) (t.steps + 281) rt go.base (omega arith))
+        by_state : (n : ℕ) → t.steps + 300 * n ≤ bound → (Searching n t ⊎ Stopped t) → (k : ℕ) × (suc k ≡ n) × Ends e find_turn (tick t) (Turned bound k)
+        by_state n steps (inr d) = absurd (omega (arith, d.over, h))
+        by_state zero steps (inl go) =
+            let lt = slot_below g go.looked go.within (omega (arith, h, go.base, go.place)) in absurd (omega (arith, go.left, lt))
+        by_state (suc k) steps (inl go) =
+            let lt = slot_below g go.looked go.within (omega (arith, h, go.base, go.place)) in
+            (k, refl, turn_ends (tick t) bound k go.looked rt lt go.left go.base go.place go.none (omega (arith, steps)))
 
-  loop_ends : (s : RunState) (bound : ℕ) → IsReady g e ws m s → s.regs 8 ≡ g.slots → s.regs 10 ≡ 0 → s.regs 11 ≡ 2 → s.steps + 300 * g.slots + 2 ≤ bound → Ends e (WhileLt 10 3 find_turn) s (Found bound)
-  loop_ends s bound r found i base steps =
-      loop e finder 10 3 find_turn s (Invariant (s.steps + 300 * g.slots + 1)) (Found bound) refl
-      (turn s (s.steps + 300 * g.slots + 1) r)
-      (λ n t f it le. let rt = ready_framed finder g e ws m s t refl refl finder_low f r in
-      elim it.state [
-        | inl go ↦ record { steps = omega (arith, it.steps, steps); ready = rt; result = inr (go.found, λ k h. go.none k (omega (arith, h, le, rt.slots))) }
-        | inr d ↦ record { steps = omega (arith, it.steps, steps); ready = rt; result = inl d.0 }
-      ])
-      g.slots
-      (record { left = omega arith; steps = omega arith; state = inl (record { found = found; within = omega (arith, i); base = base ∙ sym (slot_first g) ∙ ap (slot_at g) (sym i); none = λ k h. absurd (omega (arith, h, i)) }) })
+    done : (n : ℕ) (t : RunState) → Framed walking s t → Turned bound n t → t.regs r_place ≤ t.regs r_base → Found limit (tick t)
+    done n t f it le =
+        let rt = ready_framed walking g ws m key s t refl refl walking_low f r in
+        elim it.state [
+          | inl go ↦ (let all = slot_last g go.looked go.within (omega (arith, le, go.base, go.place)) in
+              record { steps = omega (arith, it.steps, more); loaded = rt.loaded; result = inr (go.place, λ k h. go.none k (omega (arith, h, all))) })
+          | inr d ↦ record { steps = omega (arith, it.steps, more); loaded = rt.loaded; result = inl d.hit }
+        ]
+
+  -- the walk through the slots, from the first on
+  walk_ends : (s : RunState) (bound : ℕ) → IsReady g ws m key s → s.regs r_base ≡ first_slot → s.regs r_place ≡ word_count g → s.steps + 300 * g.slots + 1 ≤ bound → Ends e (RepeatLt r_base r_place find_turn) s (Found bound)
+  walk_ends s bound r base place steps =
+      let most = s.steps + 300 * g.slots in
+      repeat e walking r_base r_place find_turn s (Turned most) (Found bound) refl (next s most bound r steps) (done s most bound r steps) (g.slots - 1)
+      (turn_ends s most (g.slots - 1) 0 r (omega (arith, seeks.valid.some_slots)) (omega arith) (base ∙ sym (slot_first g)) place (λ k h. absurd (omega (arith, h))) (omega (arith, seeks.valid.some_slots)))
 
   -- the whole find
-  pub find_ends : (s : RunState) (bound : ℕ) → IsValid g → IsParsed s.stage → s.words ≡ ws → length ws ≡ word_count g → s.regs 1 ≡ m → 46 ≤ length e.input → slice_index e.input 12 ≤ 32 → s.steps + 300 * g.slots + 20 ≤ bound → Ends e (find_program g) s (Found bound)
-  find_ends s bound v parsed same len moment input few steps = (
-    parsed,
-    slice_index e.input 1,
-    word_is e.input 1 1 refl (omega (arith, input)),
-    (
-      parsed,
-      slice_index e.input 2,
-      word_is e.input 2 2 refl (omega (arith, input)),
-      (
+  pub find_ends : (s : RunState) (bound : ℕ) → IsParsed s.stage → s.words ≡ ws → HasConstants g m s → s.steps + 300 * g.slots + 20 ≤ bound → Ends e find_program s (Found bound)
+  find_ends s bound parsed same constants steps =
+      let call = seeks.call in (
         parsed,
-        slice_index e.input 12,
-        word_is e.input 12 12 refl (omega (arith, input)),
-        loop_ends _ bound (record { valid = v; size = len; same = same; parsed = parsed; moment = moment; input = input; few = few; none = refl; one = refl; slots = refl; wide = refl; key_length = refl; hash = refl; key_words = refl }) refl refl refl (omega (arith, steps)),
-      ),
-    ),
-  )
+        length key,
+        word_stands e.input (s.regs r_one) key_length_index (length key) constants.one (omega (arith, call.room)) call.key_length,
+        (
+          parsed,
+          fnv64 key,
+          word_stands e.input hash_index hash_index (fnv64 key) refl (omega (arith, call.room)) call.hash,
+          (
+            parsed,
+            words_for (length key),
+            word_stands e.input key_words_index key_words_index (words_for (length key)) refl (omega (arith, call.room)) call.key_words,
+            (
+              key_index + words_for (length key),
+              sum_is _ _ _ refl (omega (arith, call.fits)),
+              walk_ends _ bound (record { same = same; parsed = parsed; constants = constants; loaded = record { key_length = refl; hash = refl; key_words = refl; key_end = refl } }) refl constants.ends (omega (arith, steps)),
+            ),
+          ),
+        ),
+      )

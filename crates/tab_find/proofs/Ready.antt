@@ -1,83 +1,81 @@
--- What the programs behind the find stand on.
-use Rattle.std.proofs.Common.{◌≡◌, ℕ, ◌+◌, ◌<◌, ◌≤◌, ◌^◌, ◌%◌, List, length, sym, ap, ◌∙◌, subst, arith}
-use Rattle.std.specs.Prelude.{slice_index, false, nat_lt, ◌&&◌}
+-- What the find's programs stand on, and the registers that they write.
+use Rattle.std.proofs.Common.{◌≡◌, ℕ, ◌+◌, ◌<◌, ◌≤◌, ◌-◌, ◌^◌, List, length, ap, ◌∙◌, arith}
+use Rattle.std.specs.Prelude.{false, nat_eq, nat_lt, ◌&&◌, ◌||◌}
 use Rattle.std.proofs.lemmas.Bool.Decides.{nat_tests}
 use Rattle.mc_model.specs.declared.geometry.Geometry.{Geometry}
 use Rattle.mc_model.specs.Server.{IsValid}
-use Rattle.sei_words.specs.Layout.{width, slot_at, word_count, field}
-use Rattle.sei_words.proofs.LayoutLaws.{slot_apart, width_is}
+use Rattle.sei_words.specs.Layout.{word_count, field, expiry_offset}
+use Rattle.sei_words.specs.Free.{IsTaken}
 use Rattle.sei_stmt.specs.Order.{is_parsed}
 use Rattle.sei_stmt.specs.Runs.{Given, RunState}
-use Rattle.sei_stmt.specs.Programs.{HasWord, IsParsed}
+use Rattle.sei_stmt.specs.Programs.{IsParsed}
 use Rattle.sei_stmt.specs.Touch.{Touch, Framed}
-use Rattle.tab_find.proofs.MachineLaws.{few_words, sum_is, word_is}
+use Rattle.tab_find.specs.Answers.{Constants}
+use Rattle.tab_find.specs.Calls.{HasKey}
+use Rattle.tab_find.specs.Found.{KeyLoaded}
+use Rattle.tab_find.specs.Registers.{r_zero, r_moment, r_one, r_expiry_offset, r_width, r_end, r_key_length, r_hash, r_key_words, r_key_end, r_place, r_address, r_passed}
 
--- the words, the stage, and what registers 0 to 7 hold. The words are those of a bucket at this moment
-pub record Ready (g : Geometry) (e : Given) (ws : List ℕ) (m : ℕ) (words : List ℕ) (stage r0 r1 r2 r3 r4 r5 r6 r7 : ℕ) : Type 0 where
+-- What stays through a find: words of a bucket at this moment, and the input words of this key. The expiry of a taken slot is a
+-- number of 64 bits.
+pub record Seeks (g : Geometry) (e : Given) (ws : List ℕ) (m : ℕ) (key : List ℕ) : Type 0 where
   pub valid : IsValid g
   pub size : length ws ≡ word_count g
+  pub moment : m < 2 ^ 64
+  pub expiry : (i : ℕ) → i < g.slots → IsTaken g ws m i → field g ws i expiry_offset < 2 ^ 64
+  pub call : HasKey e.input key
+  pub some : 1 ≤ length key
+
+-- the words, the stage, the constants and the call's key
+pub record Ready (g : Geometry) (ws : List ℕ) (m : ℕ) (key words : List ℕ) (stage r0 r1 r2 r3 r4 r5 r6 r7 r8 r9 : ℕ) : Type 0 where
   pub same : words ≡ ws
   pub parsed : IsParsed stage
-  pub moment : r1 ≡ m
-  pub input : 46 ≤ length e.input
-  pub few : slice_index e.input 12 ≤ 32
-  pub none : r0 ≡ 0
-  pub one : r2 ≡ 1
-  pub slots : r3 ≡ g.slots
-  pub wide : r4 ≡ width g
-  pub key_length : r5 ≡ slice_index e.input 1
-  pub hash : r6 ≡ slice_index e.input 2
-  pub key_words : r7 ≡ slice_index e.input 12
+  pub constants : Constants g m r0 r1 r2 r3 r4 r5
+  pub loaded : KeyLoaded key r6 r7 r8 r9
 
 -- the same of a state. A write of any other register leaves this very type
-abbrev pub IsReady : Geometry → Given → List ℕ → ℕ → RunState → Type 0
-IsReady g e ws m s = Ready g e ws m s.words s.stage (s.regs 0) (s.regs 1) (s.regs 2) (s.regs 3) (s.regs 4) (s.regs 5) (s.regs 6) (s.regs 7)
+abbrev pub IsReady : Geometry → List ℕ → ℕ → List ℕ → RunState → Type 0
+IsReady g ws m key s =
+    Ready g ws m key s.words s.stage (s.regs r_zero) (s.regs r_moment) (s.regs r_one) (s.regs r_expiry_offset) (s.regs r_width) (s.regs r_end) (s.regs r_key_length) (s.regs r_hash) (s.regs r_key_words) (s.regs r_key_end)
 
--- behind a program that stored nothing and wrote no register below 8
-pub ready_behind : (w : Touch) (g : Geometry) (e : Given) (ws : List ℕ) (m : ℕ) (s t : RunState) → w.words ≡ false → IsParsed t.stage → ((r : ℕ) → r < 8 → w.regs r ≡ false) → Framed w s t → IsReady g e ws m s → IsReady g e ws m t
-ready_behind w g e ws m s t dry parsed low f r =
+-- the place and registers 12 to 17 alone, which the look at a slot writes
+abbrev pub looking : Touch
+looking = record { regs = λ r. nat_eq r r_place || (nat_lt (r_address - 1) r && nat_lt r (r_passed + 1)); words = false; out = false; stage = false }
+
+-- registers 10 to 17 alone, which the walk through the slots writes
+abbrev pub walking : Touch
+walking = record { regs = λ r. nat_lt r_key_end r && nat_lt r (r_passed + 1); words = false; out = false; stage = false }
+
+-- registers 6 to 17 alone, which the find writes
+abbrev pub finding : Touch
+finding = record { regs = λ r. nat_lt r_end r && nat_lt r (r_passed + 1); words = false; out = false; stage = false }
+
+pub looking_low : (r : ℕ) → r < r_place → looking.regs r ≡ false
+looking_low r h = grind (arith, nat_tests)
+
+pub walking_low : (r : ℕ) → r < r_place → walking.regs r ≡ false
+walking_low r h = grind (arith, nat_tests)
+
+-- after a program that writes no register below the place, and nothing else
+pub ready_framed : (w : Touch) (g : Geometry) (ws : List ℕ) (m : ℕ) (key : List ℕ) (s t : RunState) → w.words ≡ false → w.stage ≡ false → ((r : ℕ) → r < r_place → w.regs r ≡ false) → Framed w s t → IsReady g ws m key s → IsReady g ws m key t
+ready_framed w g ws m key s t dry still low f r =
+    let k = λ (n : ℕ) (lt : n < r_place). f.regs n (low n lt) in
+    let c = r.constants in
+    let l = r.loaded in
     record {
-      valid = r.valid;
-      size = r.size;
       same = f.words dry ∙ r.same;
-      parsed = parsed;
-      moment = f.regs 1 (low 1 (omega arith)) ∙ r.moment;
-      input = r.input;
-      few = r.few;
-      none = f.regs 0 (low 0 (omega arith)) ∙ r.none;
-      one = f.regs 2 (low 2 (omega arith)) ∙ r.one;
-      slots = f.regs 3 (low 3 (omega arith)) ∙ r.slots;
-      wide = f.regs 4 (low 4 (omega arith)) ∙ r.wide;
-      key_length = f.regs 5 (low 5 (omega arith)) ∙ r.key_length;
-      hash = f.regs 6 (low 6 (omega arith)) ∙ r.hash;
-      key_words = f.regs 7 (low 7 (omega arith)) ∙ r.key_words;
+      parsed = ap is_parsed (f.stage still) ∙ r.parsed;
+      constants = record {
+        none = k r_zero (omega arith) ∙ c.none;
+        moment = k r_moment (omega arith) ∙ c.moment;
+        one = k r_one (omega arith) ∙ c.one;
+        to_expiry = k r_expiry_offset (omega arith) ∙ c.to_expiry;
+        wide = k r_width (omega arith) ∙ c.wide;
+        ends = k r_end (omega arith) ∙ c.ends;
+      };
+      loaded = record {
+        key_length = k r_key_length (omega arith) ∙ l.key_length;
+        hash = k r_hash (omega arith) ∙ l.hash;
+        key_words = k r_key_words (omega arith) ∙ l.key_words;
+        key_end = k r_key_end (omega arith) ∙ l.key_end;
+      };
     }
-
-pub ready_framed : (w : Touch) (g : Geometry) (e : Given) (ws : List ℕ) (m : ℕ) (s t : RunState) → w.words ≡ false → w.stage ≡ false → ((r : ℕ) → r < 8 → w.regs r ≡ false) → Framed w s t → IsReady g e ws m s → IsReady g e ws m t
-ready_framed w g e ws m s t dry still low f r = ready_behind w g e ws m s t dry (ap is_parsed (f.stage still) ∙ r.parsed) low f r
-
--- registers 12 to 17 alone
-abbrev pub scratch : Touch
-scratch = record { regs = λ r. nat_lt 11 r && nat_lt r 18; words = false; out = false; stage = false }
-
-pub scratch_low : (r : ℕ) → r < 8 → scratch.regs r ≡ false
-scratch_low r h = grind (arith, nat_tests)
-
--- registers 8 to 17 alone
-abbrev pub finder : Touch
-finder = record { regs = λ r. nat_lt 7 r && nat_lt r 18; words = false; out = false; stage = false }
-
-pub finder_low : (r : ℕ) → r < 8 → finder.regs r ≡ false
-finder_low r h = grind (arith, nat_tests)
-
-module _ (g : Geometry) (e : Given) (ws : List ℕ) (m i : ℕ) where
-  -- a word of a slot is read
-  pub loads : (s : RunState) (a k : ℕ) → IsReady g e ws m s → i < g.slots → a ≡ slot_at g i + k → k < 39 → HasWord s.words a (field g ws i k)
-  loads s a k r lt is h =
-      let fit : slot_at g i + k < length ws = omega (arith, slot_apart g i g.slots lt, width_is g, r.size, h) in
-      subst (λ l. HasWord l a (field g ws i k)) (sym r.same) (word_is ws a (slot_at g i + k) is fit)
-
-  -- an address in a slot goes on
-  pub goes_on : (s : RunState) (x y a b : ℕ) → IsReady g e ws m s → i < g.slots → x ≡ slot_at g i + a → y ≡ b → a + b ≤ 39 → (x + y) % 2 ^ 64 ≡ slot_at g i + (a + b)
-  goes_on s x y a b r lt ex ey h =
-      sum_is _ _ _ (omega (arith, ex, ey)) (omega (arith, slot_apart g i g.slots lt, width_is g, r.size, h, few_words g r.valid))

@@ -1,31 +1,11 @@
 -- The input words of a call.
 use Rattle.std.specs.Prelude.{◌≡◌, ◌≢◌, ℕ, ◌+◌, ◌≤◌, Bool, List, [], length, slice_index, if◌then◌else◌}
 use Rattle.sei_code.specs.Codes.{fnv64}
-use Rattle.mc_model.specs.declared.geometry.Geometry.{Geometry}
-use Rattle.mc_model.specs.declared.call.Verb.{Verb}
-use Rattle.mc_model.specs.declared.call.Verb.TheVariants.{Set, Add, Replace, Append, Prepend, Cas, Get, Gets, Gat, Gats, Touch, Delete, Incr, Decr, Flush, Fixed}
-use Rattle.mc_model.specs.Call.{Call}
+use Rattle.mc_model.specs.Call.{Call, verb_number}
 use Rattle.mc_model.specs.Packed.{AreBytes, words_for, pack}
+use Rattle.sei_words.specs.Layout.{key_room}
 use Rattle.sei_words.specs.Stored.{StoredAt}
 use Rattle.tab_find.specs.Inputs.{verb_index, key_length_index, hash_index, flags_index, negative_index, exptime_index, unique_index, value_index, block_length_index, last_index, noreply_index, text_index, key_words_index, block_words_index, key_index, block_index}
-
-abbrev pub verb_number : Verb → ℕ
-verb_number Set = 0
-verb_number Add = 1
-verb_number Replace = 2
-verb_number Append = 3
-verb_number Prepend = 4
-verb_number Cas = 5
-verb_number Get = 6
-verb_number Gets = 7
-verb_number Gat = 8
-verb_number Gats = 9
-verb_number Touch = 10
-verb_number Delete = 11
-verb_number Incr = 12
-verb_number Decr = 13
-verb_number Flush = 14
-verb_number Fixed = 15
 
 -- a mark as a word
 abbrev pub mark : Bool → ℕ
@@ -38,23 +18,22 @@ pub record HasKey (input key : List ℕ) : Type 0 where
   pub hash : slice_index input hash_index ≡ fnv64 key
   pub key_words : slice_index input key_words_index ≡ words_for (length key)
   pub bytes : AreBytes key
-  pub fits : words_for (length key) ≤ 32
+  pub fits : words_for (length key) ≤ key_room
   pub words : StoredAt input key_index (pack key)
 
 -- the words of the call's block
-pub record HasBlock (g : Geometry) (input block : List ℕ) : Type 0 where
-  pub room : block_index + g.value_words ≤ length input
+pub record HasBlock (input block : List ℕ) : Type 0 where
+  pub room : block_index + words_for (length block) ≤ length input
   pub block_length : slice_index input block_length_index ≡ length block
   pub block_words : slice_index input block_words_index ≡ words_for (length block)
   pub bytes : AreBytes block
-  pub fits : words_for (length block) ≤ g.value_words
   pub words : StoredAt input block_index (pack block)
 
 -- all input words of a call. A call on one bucket and a fixed text have no key, and their hash is left open
-pub record IsCall (g : Geometry) (input : List ℕ) (c : Call) : Type 0 where
+pub record IsCall (input : List ℕ) (c : Call) : Type 0 where
   pub verb : slice_index input verb_index ≡ verb_number c.verb
   pub key : c.key ≢ [] → HasKey input c.key
-  pub block : HasBlock g input c.block
+  pub block : HasBlock input c.block
   pub flags : slice_index input flags_index ≡ c.flags
   pub negative : slice_index input negative_index ≡ mark c.negative
   pub exptime : slice_index input exptime_index ≡ c.exptime

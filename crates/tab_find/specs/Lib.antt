@@ -1,6 +1,11 @@
 pub mod Registers
 pub mod Inputs
-pub mod Parts
-pub mod Codes
 pub mod Calls
 pub mod Fit
+pub mod FindPrograms
+pub mod StorePrograms
+pub mod ShowPrograms
+pub mod Parts
+pub mod Answers
+pub mod Found
+pub mod Copies

@@ -1,163 +1,172 @@
-//! The statements of the moment, of the find, and for a free slot.
+//! The programs of the moment, of the find, and for a free slot. The error of each call is that memory ran out.
 ghost use Rattle.std.specs.Prelude.{◌≡◌, IfOk};
 ghost use Rattle.mc_model.specs.Server.{IsValid};
-ghost use Rattle.sei_stmt.specs.Programs.{flatten};
-ghost use Rattle.tab_find.specs.Parts as parts;
+ghost use Rattle.sei_stmt.specs.Written.{prog_of};
+ghost use Rattle.tab_find.specs.FindPrograms as programs;
 
+use crate::inputs;
 use crate::registers::*;
-use crate::statements::{NEXT_ADDRESS, NEXT_INDEX, NEXT_TURN, add, copy, input, load, set, store};
-use crate::{inputs, offsets};
+use crate::statements::{NEXT_ADDRESS, NEXT_INDEX, add, copy, input, load, set, store, subtract};
 use mc_model::Geometry;
 use sei_code::Memory;
-use sei_stmt::{Stmt, if_eq, if_lt, while_lt};
+use sei_stmt::{Program, Stmt};
+use sei_words::layout;
 use std::alloc::Global;
 
-/// The address at which the first slot begins.
-const FIRST_SLOT: u64 = 2;
-
-/// The moment.
-pub fn moment(alloc: Global) -> Result<Vec<Stmt>, Memory>
-    ensures { IfOk result (λ stmts. stmts.items ≡ flatten parts.moment_program) }
+/// Sets the constants and the moment.
+pub fn moment(alloc: Global, g: &Geometry) -> Result<Program, Memory>
+    requires { IsValid g.now }
+    ensures { IfOk result (λ p. prog_of p ≡ programs.moment_program g.now) }
 {
-    let mut stmts = vec![in alloc;
-        Stmt::Now { to: WORD },
-        set(ZERO, 0),
-        set(ONE, 1),
-        load(MOMENT, ZERO),
-    ]?;
-    if_lt(&mut stmts, MOMENT, WORD, &[copy(MOMENT, WORD)], &[])?;
-    if_lt(&mut stmts, MOMENT, ONE, &[copy(MOMENT, ONE)], &[])?;
-    stmts.push(store(ZERO, MOMENT))?;
-    Ok(stmts)
+    let begin = Program::block(
+        alloc,
+        &[
+            Stmt::Now { to: WORD },
+            set(ZERO, 0),
+            set(ONE, 1),
+            set(EXPIRY_OFFSET, layout::EXPIRY),
+            set(WIDTH, layout::width(g)),
+            set(END, layout::slot_at(g, g.slots)),
+            load(MOMENT, ZERO),
+        ],
+    )?;
+    let at_least_one = Program::block(alloc, &[copy(MOMENT, ONE)])?;
+    let at_least_one = Program::if_lt(alloc, ZERO, MOMENT, Program::empty(alloc), at_least_one)?;
+    let later = Program::block(alloc, &[copy(MOMENT, WORD)])?.then(alloc, at_least_one)?;
+    let latest = Program::if_lt(alloc, WORD, MOMENT, Program::empty(alloc), later)?;
+    let stored = Program::block(alloc, &[store(ZERO, MOMENT)])?;
+    begin.then(alloc, latest.then(alloc, stored)?)
+}
+
+/// Compares one key word with one input word.
+fn compare_turn(alloc: Global) -> Result<Program, Memory>
+    ensures { IfOk result (λ p. prog_of p ≡ programs.compare_turn) }
+{
+    let words = Program::block(alloc, &[load(WORD, ADDRESS), input(OTHER, INDEX)])?;
+    let next = Program::block(alloc, &[NEXT_ADDRESS, NEXT_INDEX])?;
+    let differs = Program::block(alloc, &[copy(PLACE, END), copy(INDEX, KEY_END)])?;
+    words.then(alloc, Program::if_eq(alloc, WORD, OTHER, next, differs)?)
 }
 
 /// Compares the key words of the slot at the base with those of the input.
-fn compare_key(alloc: Global) -> Result<Vec<Stmt>, Memory>
-    ensures { IfOk result (λ stmts. stmts.items ≡ flatten parts.compare_key) }
+fn compare_key(alloc: Global) -> Result<Program, Memory>
+    ensures { IfOk result (λ p. prog_of p ≡ programs.compare_key) }
 {
-    let mut turn = vec![in alloc; load(WORD, ADDRESS), input(OTHER, INDEX)]?;
-    if_eq(
-        &mut turn,
-        WORD,
-        OTHER,
-        &[NEXT_ADDRESS, NEXT_INDEX, NEXT_TURN],
-        &[set(FITS, 0), copy(TURN, KEY_WORDS)],
+    let start = Program::block(
+        alloc,
+        &[
+            set(ADDRESS, layout::KEY),
+            add(ADDRESS, BASE, ADDRESS),
+            set(INDEX, inputs::KEY),
+            copy(PLACE, BASE),
+        ],
     )?;
-    let mut stmts = vec![in alloc;
-        set(ADDRESS, offsets::KEY),
-        add(ADDRESS, BASE, ADDRESS),
-        set(INDEX, inputs::KEY),
-        set(TURN, 0),
-    ]?;
-    while_lt(&mut stmts, TURN, KEY_WORDS, &turn)?;
-    Ok(stmts)
+    let turn = compare_turn(alloc)?;
+    start.then(alloc, Program::repeat_lt(alloc, INDEX, KEY_END, turn)?)
 }
 
-/// Looks at the hash, the key length and the key words of the slot at the base.
-fn look_key(alloc: Global) -> Result<Vec<Stmt>, Memory>
-    ensures { IfOk result (λ stmts. stmts.items ≡ flatten parts.look_key) }
+/// Looks at the key length of the slot at the base, and then at its key.
+fn look_length(alloc: Global) -> Result<Program, Memory>
+    ensures { IfOk result (λ p. prog_of p ≡ programs.look_length) }
 {
-    let mut compare = vec![in alloc; set(FITS, 1)]?;
-    let rest = compare_key(alloc)?;
-    compare.extend_from_slice(&rest)?;
-    let mut same_hash = vec![in alloc; NEXT_ADDRESS, load(WORD, ADDRESS)]?;
-    if_eq(&mut same_hash, WORD, KEY_LENGTH, &compare, &[])?;
-    let mut stmts = vec![in alloc; add(ADDRESS, BASE, ONE), load(WORD, ADDRESS), set(FITS, 0)]?;
-    if_eq(&mut stmts, WORD, HASH, &same_hash, &[])?;
-    Ok(stmts)
+    let word = Program::block(alloc, &[NEXT_ADDRESS, load(WORD, ADDRESS)])?;
+    let key = compare_key(alloc)?;
+    word.then(
+        alloc,
+        Program::if_eq(alloc, WORD, KEY_LENGTH, key, Program::empty(alloc))?,
+    )
 }
 
-/// Whether the slot at the base has no expiry, or one that is still to come.
-fn look_expiry(alloc: Global) -> Result<Vec<Stmt>, Memory>
-    ensures { IfOk result (λ stmts. stmts.items ≡ flatten parts.look_expiry) }
+/// Looks at the hash of the slot at the base, and then at the rest.
+fn look_hash(alloc: Global) -> Result<Program, Memory>
+    ensures { IfOk result (λ p. prog_of p ≡ programs.look_hash) }
 {
-    let mut later = Vec::new(alloc);
-    if_lt(&mut later, MOMENT, WORD, &[], &[set(FITS, 0)])?;
-    let mut stmts = vec![in alloc;
-        set(ADDRESS, offsets::EXPIRY),
-        add(ADDRESS, BASE, ADDRESS),
-        load(WORD, ADDRESS),
-        set(FITS, 1),
-    ]?;
-    if_eq(&mut stmts, WORD, ZERO, &[], &later)?;
-    Ok(stmts)
+    let word = Program::block(alloc, &[add(ADDRESS, BASE, ONE), load(WORD, ADDRESS)])?;
+    let rest = look_length(alloc)?;
+    word.then(
+        alloc,
+        Program::if_eq(alloc, WORD, HASH, rest, Program::empty(alloc))?,
+    )
+}
+
+/// Looks at the expiry of the slot at the base, and then at the rest.
+fn look_expiry(alloc: Global) -> Result<Program, Memory>
+    ensures { IfOk result (λ p. prog_of p ≡ programs.look_expiry) }
+{
+    let word = Program::block(
+        alloc,
+        &[
+            add(ADDRESS, BASE, EXPIRY_OFFSET),
+            load(WORD, ADDRESS),
+            subtract(WORD, WORD, ONE),
+        ],
+    )?;
+    let rest = look_hash(alloc)?;
+    word.then(
+        alloc,
+        Program::if_lt(alloc, WORD, MOMENT, Program::empty(alloc), rest)?,
+    )
 }
 
 /// Looks at the slot at the base.
-fn look(alloc: Global) -> Result<Vec<Stmt>, Memory>
-    ensures { IfOk result (λ stmts. stmts.items ≡ flatten parts.look) }
+fn look(alloc: Global) -> Result<Program, Memory>
+    ensures { IfOk result (λ p. prog_of p ≡ programs.look) }
 {
-    let mut rest = look_expiry(alloc)?;
-    let key = look_key(alloc)?;
-    if_eq(&mut rest, FITS, ZERO, &[], &key)?;
-    let mut stmts = vec![in alloc; set(FITS, 0), load(WORD, BASE)]?;
-    if_eq(&mut stmts, WORD, ZERO, &[], &rest)?;
-    Ok(stmts)
+    let word = Program::block(alloc, &[load(WORD, BASE)])?;
+    let rest = look_expiry(alloc)?;
+    word.then(
+        alloc,
+        Program::if_eq(alloc, WORD, ZERO, Program::empty(alloc), rest)?,
+    )
 }
 
-/// One turn of the find.
-fn find_turn(alloc: Global) -> Result<Vec<Stmt>, Memory>
-    ensures { IfOk result (λ stmts. stmts.items ≡ flatten parts.find_turn) }
+/// The call's key, and the first slot.
+fn find_start(alloc: Global) -> Result<Program, Memory>
+    ensures { IfOk result (λ p. prog_of p ≡ programs.find_start) }
 {
-    let mut stmts = look(alloc)?;
-    let hit = [copy(FOUND, LOOKED), copy(PLACE, BASE), copy(LOOKED, SLOTS)];
-    if_eq(&mut stmts, FITS, ONE, &hit, &[])?;
-    stmts.push(add(LOOKED, LOOKED, ONE))?;
-    stmts.push(add(BASE, BASE, WIDTH))?;
-    Ok(stmts)
+    Program::block(
+        alloc,
+        &[
+            input(KEY_LENGTH, ONE),
+            set(INDEX, inputs::HASH),
+            input(HASH, INDEX),
+            set(INDEX, inputs::KEY_WORDS),
+            input(KEY_WORDS, INDEX),
+            set(KEY_END, inputs::KEY),
+            add(KEY_END, KEY_END, KEY_WORDS),
+            set(BASE, layout::FIRST_SLOT),
+            copy(PLACE, END),
+        ],
+    )
 }
 
-/// The constants and the first slot of the find.
-#[tactic(auto, unfolding(sei_words::specs::Layout::width))]
-fn find_start(alloc: Global, g: &Geometry) -> Result<Vec<Stmt>, Memory>
-    requires { IsValid g.now }
-    ensures { IfOk result (λ stmts. stmts.items ≡ parts.find_start g.now) }
+/// Finds the slot that has the call's key.
+pub fn find(alloc: Global) -> Result<Program, Memory>
+    ensures { IfOk result (λ p. prog_of p ≡ programs.find_program) }
 {
-    let stmts = vec![in alloc;
-        set(ZERO, 0),
-        set(ONE, 1),
-        set(SLOTS, g.slots),
-        set(WIDTH, 39 + g.value_words),
-        input(KEY_LENGTH, ONE),
-        set(ADDRESS, inputs::HASH),
-        input(HASH, ADDRESS),
-        set(ADDRESS, inputs::KEY_WORDS),
-        input(KEY_WORDS, ADDRESS),
-        set(LOOKED, 0),
-        set(BASE, FIRST_SLOT),
-        copy(FOUND, SLOTS),
-    ]?;
-    Ok(stmts)
+    let start = find_start(alloc)?;
+    let next = Program::block(alloc, &[add(BASE, BASE, WIDTH)])?;
+    let turn = look(alloc)?.then(alloc, next)?;
+    start.then(alloc, Program::repeat_lt(alloc, BASE, PLACE, turn)?)
 }
 
-/// The find.
-pub fn find(alloc: Global, g: &Geometry) -> Result<Vec<Stmt>, Memory>
-    requires { IsValid g.now }
-    ensures { IfOk result (λ stmts. stmts.items ≡ flatten (parts.find_program g.now)) }
+/// Asks for a free slot, and makes its address.
+pub fn free(alloc: Global) -> Result<Program, Memory>
+    ensures { IfOk result (λ p. prog_of p ≡ programs.free_program) }
 {
-    let mut stmts = find_start(alloc, g)?;
-    let turn = find_turn(alloc)?;
-    while_lt(&mut stmts, LOOKED, SLOTS, &turn)?;
-    Ok(stmts)
-}
-
-/// A free slot, and the address at which it begins.
-pub fn free(alloc: Global) -> Result<Vec<Stmt>, Memory>
-    ensures { IfOk result (λ stmts. stmts.items ≡ flatten parts.free_program) }
-{
-    let mut stmts = vec![in alloc;
-        Stmt::Alloc {
+    let asked = Program::block(
+        alloc,
+        &[Stmt::Alloc {
             to: SLOT,
-            moment: MOMENT
-        },
-        set(PLACE, FIRST_SLOT),
-        set(TURN, 0),
-    ]?;
-    while_lt(
-        &mut stmts,
-        TURN,
-        SLOT,
-        &[add(PLACE, PLACE, WIDTH), NEXT_TURN],
+            moment: MOMENT,
+        }],
     )?;
-    Ok(stmts)
+    let first = Program::block(alloc, &[set(PLACE, layout::FIRST_SLOT)])?;
+    let next = Program::block(
+        alloc,
+        &[add(PLACE, PLACE, WIDTH), subtract(SLOT, SLOT, ONE)],
+    )?;
+    let slots = Program::repeat_lt(alloc, ZERO, SLOT, next)?;
+    let place = Program::if_eq(alloc, SLOT, ZERO, Program::empty(alloc), slots)?;
+    asked.then(alloc, first.then(alloc, place)?)
 }

@@ -1,16 +1,21 @@
 //! The parts of a handler's table that commands share: the moment, the find, a free slot, items that
-//! are stored, and output words. Each part is a program with structure, whose laws say what it does to
-//! the words of a bucket.
+//! are read and stored, and output words. Each is a program with structure, whose laws say what it does
+//! to the words of a bucket. Nothing above this crate knows where a word stands.
 #![tactic(auto)]
 
 mod finding;
 mod fragments;
 pub mod inputs;
-pub mod offsets;
+mod laws;
 pub mod registers;
+mod showing;
 pub mod statements;
 mod storing;
 #[cfg(test)]
 mod tests;
 
-pub use fragments::{Part, draw, emit_words, expiry, fragment, new_item, replaced_item, say};
+pub use finding::{find, free, moment};
+pub use fragments::{Part, fragment};
+pub use laws::{find_stands, free_ends, key_is_copied, moment_stands, value_is_stored};
+pub use showing::{answer_text, if_wanted, load_item, say, show_run, show_value};
+pub use storing::{draw_item, expiry, keep_item, load_call, make_item, remove_item};

@@ -1,60 +1,60 @@
-//! The registers, by name. Those from 24 on are free for a command's own use.
+//! The registers, by name. Those from 24 to 27 are free for a command's own use.
 
-/// Holds 0, set with the moment.
+/// Holds 0. The registers 0 to 5 are constants, which are set once, with the moment.
 pub const ZERO: u8 = 0;
 
 /// The moment of the bucket.
 pub const MOMENT: u8 = 1;
 
-/// Holds 1, set with the moment.
+/// Holds 1.
 pub const ONE: u8 = 2;
 
-/// The number of slots, set by the find.
-pub const SLOTS: u8 = 3;
+/// Where in a slot its expiry stands.
+pub const EXPIRY_OFFSET: u8 = 3;
 
-/// The number of words of a slot, set by the find.
+/// The number of words of a slot.
 pub const WIDTH: u8 = 4;
 
-/// The length of the call's key in bytes, set by the find.
-pub const KEY_LENGTH: u8 = 5;
+/// The address after the last slot.
+pub const END: u8 = 5;
 
-/// The hash of the call's key, set by the find.
-pub const HASH: u8 = 6;
+/// The length of the call's key in bytes. The registers 6 to 9 are loaded by the find.
+pub const KEY_LENGTH: u8 = 6;
 
-/// The number of words of the call's key, set by the find.
-pub const KEY_WORDS: u8 = 7;
+/// The hash of the call's key.
+pub const HASH: u8 = 7;
 
-/// The slot that the find found, or the number of slots.
-pub const FOUND: u8 = 8;
+/// The number of words of the call's key.
+pub const KEY_WORDS: u8 = 8;
 
-/// The address at which the slot begins that was found or given.
-pub const PLACE: u8 = 9;
+/// The index after the last word of the call's key, among the input words.
+pub const KEY_END: u8 = 9;
 
-/// The slot that the find looks at.
-pub const LOOKED: u8 = 10;
+/// The address at which the slot begins that was found or given, or the address after the last slot if there is none.
+pub const PLACE: u8 = 10;
 
 /// The address at which the slot begins that the find looks at.
 pub const BASE: u8 = 11;
 
-/// An address.
+/// An address. The registers 12 to 17 are each program's scratch.
 pub const ADDRESS: u8 = 12;
 
 /// A word.
 pub const WORD: u8 = 13;
 
-/// 1 where the slot that the find looks at fits, else 0.
-pub const FITS: u8 = 14;
-
-/// The turns that a loop has made.
-pub const TURN: u8 = 15;
-
 /// The index of an input word.
-pub const INDEX: u8 = 16;
+pub const INDEX: u8 = 14;
 
 /// A second word.
-pub const OTHER: u8 = 17;
+pub const OTHER: u8 = 15;
 
-/// The flags of the item that is to be stored.
+/// The end of a run of words: an address, or the index of an input word.
+pub const LIMIT: u8 = 16;
+
+/// How many bytes of a value were passed.
+pub const PASSED: u8 = 17;
+
+/// The flags of an item.
 pub const FLAGS: u8 = 18;
 
 /// Its expiry.
@@ -66,8 +66,23 @@ pub const UNIQUE: u8 = 20;
 /// The length of its value in bytes.
 pub const VALUE_LENGTH: u8 = 21;
 
-/// The number of words of its value.
+/// The number of words of the value that is to be stored.
 pub const VALUE_WORDS: u8 = 22;
 
 /// The slot that Alloc gave.
 pub const SLOT: u8 = 23;
+
+/// The command of the call.
+pub const VERB: u8 = 24;
+
+/// The mark that the call is its request's last.
+pub const LAST: u8 = 25;
+
+/// The mark that no reply is wanted.
+pub const NOREPLY: u8 = 26;
+
+/// The number of a command or of a text.
+pub const NUMBER: u8 = 27;
+
+/// How many bytes a word holds.
+pub const EIGHT: u8 = 28;

@@ -2,7 +2,7 @@
 ghost use Rattle.std.specs.Prelude.{◌≡◌};
 ghost use Rattle.sei_stmt.specs.declared.stmt.Stmt.TheVariants as stmt;
 
-use crate::registers::{ADDRESS, INDEX, ONE, TURN};
+use crate::registers::{ADDRESS, INDEX, ONE};
 use sei_stmt::Stmt;
 
 /// The address goes on by one.
@@ -16,13 +16,6 @@ pub const NEXT_ADDRESS: Stmt = Stmt::Add {
 pub const NEXT_INDEX: Stmt = Stmt::Add {
     to: INDEX,
     left: INDEX,
-    right: ONE,
-};
-
-/// One turn more.
-pub const NEXT_TURN: Stmt = Stmt::Add {
-    to: TURN,
-    left: TURN,
     right: ONE,
 };
 
@@ -42,6 +35,12 @@ pub fn add(to: u8, left: u8, right: u8) -> Stmt
     ensures { result ≡ stmt.Add to left right }
 {
     Stmt::Add { to, left, right }
+}
+
+pub fn subtract(to: u8, left: u8, right: u8) -> Stmt
+    ensures { result ≡ stmt.Sub to left right }
+{
+    Stmt::Sub { to, left, right }
 }
 
 pub fn input(to: u8, index: u8) -> Stmt

@@ -1,64 +1,87 @@
-//! The statements that store items, and those that make output words.
-ghost use Rattle.std.specs.Prelude.{◌≡◌, ◌++◌, IfOk, OnOk};
-ghost use Rattle.sei_stmt.specs.Programs.{flatten};
-ghost use Rattle.tab_find.specs.Parts as parts;
+//! The programs that change the words of a bucket. The error of each call is that memory ran out.
+ghost use Rattle.std.specs.Prelude.{◌≡◌, IfOk};
+ghost use Rattle.sei_stmt.specs.Written.{prog_of};
+ghost use Rattle.tab_find.specs.StorePrograms as programs;
 
+use crate::inputs;
 use crate::registers::*;
-use crate::statements::{NEXT_ADDRESS, NEXT_INDEX, NEXT_TURN, add, copy, input, load, set, store};
-use crate::{inputs, offsets};
+use crate::statements::{NEXT_ADDRESS, NEXT_INDEX, add, copy, input, load, set, store};
+use mc_model::THIRTY_DAYS;
 use sei_code::Memory;
-use sei_stmt::{Stmt, if_eq, if_lt, while_lt};
+use sei_stmt::{Program, Stmt};
+use sei_words::layout;
 use std::alloc::Global;
 
-/// The longest exptime that is counted from the moment, in seconds.
-const THIRTY_DAYS: u64 = 2592000;
-
-/// Appends a loop that copies as many input words as the register says.
-pub fn copy_words(into: &mut Vec<Stmt>, count: u8) -> Result<(), Memory>
-    ensures { OnOk result (into.new.items ≡ into.old.items ++ flatten (parts.copy_program count)) }
+/// Copies the input words from the index up to the one in `limit`, of which there is one at least, to the words from the
+/// address on.
+pub fn copy_run(alloc: Global, limit: u8) -> Result<Program, Memory>
+    ensures { IfOk result (λ p. prog_of p ≡ programs.copy_run limit) }
 {
     let turn = [
         input(WORD, INDEX),
         store(ADDRESS, WORD),
         NEXT_ADDRESS,
         NEXT_INDEX,
-        NEXT_TURN,
     ];
-    into.push(set(TURN, 0))?;
-    while_lt(into, TURN, count, &turn)
+    let turn = Program::block(alloc, &turn)?;
+    Program::repeat_lt(alloc, INDEX, limit, turn)
 }
 
-/// Appends the stores of an item's flags, expiry, cas unique and length of the value.
-fn item_fields(into: &mut Vec<Stmt>) -> Result<(), Memory>
-    ensures { OnOk result (into.new.items ≡ into.old.items ++ parts.item_fields) }
+/// Stores a value: as many input words as its register says, from `index` on.
+pub fn store_value(alloc: Global, index: u64) -> Result<Program, Memory>
+    ensures { IfOk result (λ p. prog_of p ≡ programs.store_value index) }
 {
-    let stores = [
-        store(ADDRESS, FLAGS),
-        NEXT_ADDRESS,
-        store(ADDRESS, EXPIRY),
-        NEXT_ADDRESS,
-        store(ADDRESS, UNIQUE),
-        NEXT_ADDRESS,
-        store(ADDRESS, VALUE_LENGTH),
-    ];
-    into.extend_from_slice(&stores)
+    let start = Program::block(
+        alloc,
+        &[
+            set(ADDRESS, layout::VALUE),
+            add(ADDRESS, PLACE, ADDRESS),
+            set(INDEX, index),
+            add(LIMIT, INDEX, VALUE_WORDS),
+        ],
+    )?;
+    let words = copy_run(alloc, LIMIT)?;
+    start.then(
+        alloc,
+        Program::if_eq(alloc, VALUE_WORDS, ZERO, Program::empty(alloc), words)?,
+    )
 }
 
-/// Appends the way to where the value begins and to the call's block.
-fn to_value(into: &mut Vec<Stmt>) -> Result<(), Memory>
-    ensures { OnOk result (into.new.items ≡ into.old.items ++ parts.to_value) }
+/// The stores of an item's flags, expiry, cas unique and length of the value, from the address on.
+const ITEM_FIELDS: [Stmt; 7] = [
+    Stmt::Store {
+        address: ADDRESS,
+        from: FLAGS,
+    },
+    NEXT_ADDRESS,
+    Stmt::Store {
+        address: ADDRESS,
+        from: EXPIRY,
+    },
+    NEXT_ADDRESS,
+    Stmt::Store {
+        address: ADDRESS,
+        from: UNIQUE,
+    },
+    NEXT_ADDRESS,
+    Stmt::Store {
+        address: ADDRESS,
+        from: VALUE_LENGTH,
+    },
+];
+
+/// The fields of an item that keeps its key.
+fn replace_fields(alloc: Global) -> Result<Program, Memory>
+    ensures { IfOk result (λ p. prog_of p ≡ programs.replace_fields) }
 {
-    let steps = [
-        set(ADDRESS, offsets::VALUE),
-        add(ADDRESS, PLACE, ADDRESS),
-        set(INDEX, inputs::BLOCK),
-    ];
-    into.extend_from_slice(&steps)
+    let mut stmts = vec![in alloc; set(ADDRESS, layout::FLAGS), add(ADDRESS, PLACE, ADDRESS)]?;
+    stmts.extend_from_slice(&ITEM_FIELDS)?;
+    Program::block(alloc, &stmts)
 }
 
-/// The seven words at the head of a new item, and the way to its key.
-fn new_fields(alloc: Global) -> Result<Vec<Stmt>, Memory>
-    ensures { IfOk result (λ stmts. stmts.items ≡ parts.new_fields) }
+/// The words of a new item before its key, and the way to its key and the call's.
+fn new_head(alloc: Global) -> Result<Program, Memory>
+    ensures { IfOk result (λ p. prog_of p ≡ programs.new_head) }
 {
     let mut stmts = vec![in alloc;
         copy(ADDRESS, PLACE),
@@ -69,98 +92,121 @@ fn new_fields(alloc: Global) -> Result<Vec<Stmt>, Memory>
         store(ADDRESS, KEY_LENGTH),
         NEXT_ADDRESS,
     ]?;
-    item_fields(&mut stmts)?;
+    stmts.extend_from_slice(&ITEM_FIELDS)?;
     stmts.push(NEXT_ADDRESS)?;
     stmts.push(set(INDEX, inputs::KEY))?;
-    Ok(stmts)
+    Program::block(alloc, &stmts)
 }
 
-/// A new item.
-pub fn new_item(alloc: Global) -> Result<Vec<Stmt>, Memory>
-    ensures { IfOk result (λ stmts. stmts.items ≡ flatten parts.new_program) }
+/// The fields and the key of a new item.
+fn new_fields(alloc: Global) -> Result<Program, Memory>
+    ensures { IfOk result (λ p. prog_of p ≡ programs.new_fields) }
 {
-    let mut stmts = new_fields(alloc)?;
-    copy_words(&mut stmts, KEY_WORDS)?;
-    to_value(&mut stmts)?;
-    copy_words(&mut stmts, VALUE_WORDS)?;
-    Ok(stmts)
+    let key = copy_run(alloc, KEY_END)?;
+    new_head(alloc)?.then(alloc, key)
 }
 
-/// A replaced item.
-pub fn replaced_item(alloc: Global) -> Result<Vec<Stmt>, Memory>
-    ensures { IfOk result (λ stmts. stmts.items ≡ flatten parts.replace_program) }
+/// Draws the next cas unique.
+fn draw(alloc: Global) -> Result<Program, Memory>
+    ensures { IfOk result (λ p. prog_of p ≡ programs.draw) }
 {
-    let mut stmts = vec![in alloc; set(ADDRESS, offsets::FLAGS), add(ADDRESS, PLACE, ADDRESS)]?;
-    item_fields(&mut stmts)?;
-    to_value(&mut stmts)?;
-    copy_words(&mut stmts, VALUE_WORDS)?;
-    Ok(stmts)
+    Program::block(
+        alloc,
+        &[
+            load(UNIQUE, ONE),
+            add(UNIQUE, UNIQUE, ONE),
+            store(ONE, UNIQUE),
+        ],
+    )
 }
 
-/// The draw of a cas unique.
-pub fn draw(alloc: Global) -> Result<Vec<Stmt>, Memory>
-    ensures { IfOk result (λ stmts. stmts.items ≡ parts.draw) }
+/// Changes nothing. It ends a command on a key that is there and stays as it is.
+pub fn keep_item(alloc: Global) -> Program
+    ensures { prog_of result ≡ programs.keep_program }
 {
-    let stmts = vec![in alloc;
-        load(UNIQUE, ONE),
-        add(UNIQUE, UNIQUE, ONE),
-        store(ONE, UNIQUE),
-    ]?;
-    Ok(stmts)
+    Program::empty(alloc)
+}
+
+/// Replaces the item that was found by one with a drawn cas unique, whose value stands among the input words from `index` on.
+pub fn draw_item(alloc: Global, index: u64) -> Result<Program, Memory>
+    ensures { IfOk result (λ p. prog_of p ≡ programs.draw_program index) }
+{
+    let value = store_value(alloc, index)?;
+    let item = replace_fields(alloc)?.then(alloc, value)?;
+    draw(alloc)?.then(alloc, item)
+}
+
+/// Makes a new item with a drawn cas unique in the slot that was given, whose value stands among the input words from `index` on.
+pub fn make_item(alloc: Global, index: u64) -> Result<Program, Memory>
+    ensures { IfOk result (λ p. prog_of p ≡ programs.make_program index) }
+{
+    let value = store_value(alloc, index)?;
+    let item = new_fields(alloc)?.then(alloc, value)?;
+    draw(alloc)?.then(alloc, item)
+}
+
+/// Removes the item that was found: its slot is free.
+pub fn remove_item(alloc: Global) -> Result<Program, Memory>
+    ensures { IfOk result (λ p. prog_of p ≡ programs.remove_program) }
+{
+    Program::block(alloc, &[store(PLACE, ZERO)])
+}
+
+/// Loads the flags, the length and the number of words of the block that the call spells.
+pub fn load_call(alloc: Global) -> Result<Program, Memory>
+    ensures { IfOk result (λ p. prog_of p ≡ programs.load_call) }
+{
+    Program::block(
+        alloc,
+        &[
+            set(INDEX, inputs::FLAGS),
+            input(FLAGS, INDEX),
+            set(INDEX, inputs::BLOCK_LENGTH),
+            input(VALUE_LENGTH, INDEX),
+            set(INDEX, inputs::BLOCK_WORDS),
+            input(VALUE_WORDS, INDEX),
+        ],
+    )
 }
 
 /// An expiry that is counted from the moment.
-fn expiry_from_moment(alloc: Global) -> Result<Vec<Stmt>, Memory>
-    ensures { IfOk result (λ stmts. stmts.items ≡ flatten parts.expiry_from_moment) }
+fn expiry_from_moment(alloc: Global) -> Result<Program, Memory>
+    ensures { IfOk result (λ p. prog_of p ≡ programs.expiry_from_moment) }
 {
-    let mut stmts = vec![in alloc; add(EXPIRY, MOMENT, EXPIRY)]?;
-    if_lt(&mut stmts, EXPIRY, MOMENT, &[set(EXPIRY, u64::MAX)], &[])?;
-    Ok(stmts)
+    let sum = Program::block(alloc, &[add(EXPIRY, MOMENT, EXPIRY)])?;
+    let last = Program::block(alloc, &[set(EXPIRY, u64::MAX)])?;
+    sum.then(
+        alloc,
+        Program::if_lt(alloc, EXPIRY, MOMENT, last, Program::empty(alloc))?,
+    )
 }
 
-/// The expiry that the call asks for.
-pub fn expiry(alloc: Global) -> Result<Vec<Stmt>, Memory>
-    ensures { IfOk result (λ stmts. stmts.items ≡ flatten parts.expiry_program) }
+/// The expiry that an exptime other than 0 asks for.
+fn expiry_given(alloc: Global) -> Result<Program, Memory>
+    ensures { IfOk result (λ p. prog_of p ≡ programs.expiry_given) }
 {
+    let mark = Program::block(
+        alloc,
+        &[
+            set(INDEX, inputs::NEGATIVE),
+            input(WORD, INDEX),
+            set(LIMIT, THIRTY_DAYS),
+        ],
+    )?;
     let counted = expiry_from_moment(alloc)?;
-    let mut positive = Vec::new(alloc);
-    if_lt(&mut positive, ADDRESS, EXPIRY, &[], &counted)?;
-    let mut some = Vec::new(alloc);
-    if_eq(&mut some, WORD, ONE, &[copy(EXPIRY, ONE)], &positive)?;
-    let mut stmts = vec![in alloc;
-        set(ADDRESS, inputs::NEGATIVE),
-        input(WORD, ADDRESS),
-        NEXT_ADDRESS,
-        input(EXPIRY, ADDRESS),
-        set(ADDRESS, THIRTY_DAYS),
-    ]?;
-    if_eq(&mut stmts, EXPIRY, ZERO, &[], &some)?;
-    Ok(stmts)
+    let positive = Program::if_lt(alloc, LIMIT, EXPIRY, Program::empty(alloc), counted)?;
+    let at_once = Program::block(alloc, &[copy(EXPIRY, ONE)])?;
+    mark.then(alloc, Program::if_eq(alloc, WORD, ONE, at_once, positive)?)
 }
 
-/// As many words of the bucket as the register says, to the output.
-pub fn emit_words(alloc: Global, count: u8) -> Result<Vec<Stmt>, Memory>
-    ensures { IfOk result (λ stmts. stmts.items ≡ flatten (parts.emit_program count)) }
+/// Makes the expiry that the call asks for.
+pub fn expiry(alloc: Global) -> Result<Program, Memory>
+    ensures { IfOk result (λ p. prog_of p ≡ programs.expiry_program) }
 {
-    let turn = [
-        load(WORD, ADDRESS),
-        Stmt::Emit { from: WORD },
-        NEXT_ADDRESS,
-        NEXT_TURN,
-    ];
-    let mut stmts = vec![in alloc; set(TURN, 0)]?;
-    while_lt(&mut stmts, TURN, count, &turn)?;
-    Ok(stmts)
-}
-
-/// One text.
-pub fn say(alloc: Global, text: u64) -> Result<Vec<Stmt>, Memory>
-    ensures { IfOk result (λ stmts. stmts.items ≡ parts.say text) }
-{
-    let stmts = vec![in alloc;
-        Stmt::Emit { from: ZERO },
-        set(ADDRESS, text),
-        Stmt::Emit { from: ADDRESS },
-    ]?;
-    Ok(stmts)
+    let exptime = Program::block(alloc, &[set(INDEX, inputs::EXPTIME), input(EXPIRY, INDEX)])?;
+    let given = expiry_given(alloc)?;
+    exptime.then(
+        alloc,
+        Program::if_eq(alloc, EXPIRY, ZERO, Program::empty(alloc), given)?,
+    )
 }

@@ -1,6 +1,7 @@
 //! Each part, for the smallest buckets.
 use super::*;
-use mc_model::Geometry;
+use mc_model::{Geometry, texts};
+use sei_stmt::{Fragment, Program};
 use std::test::Fail;
 
 const SMALLEST: Geometry = Geometry {
@@ -12,11 +13,11 @@ const SMALLEST: Geometry = Geometry {
 #[test]
 fn each_part_is_made(rt: HostRuntime) -> Result<(), Fail> {
     let lengths = [
-        (Part::Moment, 11),
-        (Part::Find, 61),
-        (Part::Free, 7),
-        (Part::CopyKey, 8),
-        (Part::CopyValue, 8),
+        (Part::Moment, 12),
+        (Part::Find, 38),
+        (Part::Free, 6),
+        (Part::CopyKey, 5),
+        (Part::CopyValue, 10),
     ];
     for (part, length) in lengths {
         let made = fragment(rt.alloc(), &SMALLEST, part)?;
@@ -25,16 +26,28 @@ fn each_part_is_made(rt: HostRuntime) -> Result<(), Fail> {
     Ok(())
 }
 
+/// How many statements a program has.
+fn count(rt: HostRuntime, program: &Program) -> Result<usize, Fail> {
+    Ok(Fragment::of(rt.alloc(), program)?.stmts.len())
+}
+
 #[test]
-fn each_other_fragment_is_made(rt: HostRuntime) -> Result<(), Fail> {
-    assert_eq!(rt; new_item(rt.alloc())?.stmts.len(), 35);
-    assert_eq!(rt; replaced_item(rt.alloc())?.stmts.len(), 20);
-    assert_eq!(rt; draw(rt.alloc())?.stmts.len(), 3);
-    assert_eq!(rt; expiry(rt.alloc())?.stmts.len(), 16);
-    assert_eq!(rt;
-        emit_words(rt.alloc(), registers::KEY_WORDS)?.stmts.len(),
-        7
-    );
-    assert_eq!(rt; say(rt.alloc(), 3)?.stmts.len(), 3);
+fn each_program_that_shows_is_made(rt: HostRuntime) -> Result<(), Fail> {
+    assert_eq!(rt; count(rt, &load_item(rt.alloc())?)?, 10);
+    assert_eq!(rt; count(rt, &show_run(rt.alloc())?)?, 4);
+    assert_eq!(rt; count(rt, &show_value(rt.alloc())?)?, 10);
+    assert_eq!(rt; count(rt, &say(rt.alloc(), texts::END)?)?, 3);
+    assert_eq!(rt; count(rt, &answer_text(rt.alloc(), texts::STORED)?)?, 5);
+    Ok(())
+}
+
+#[test]
+fn each_program_that_stores_is_made(rt: HostRuntime) -> Result<(), Fail> {
+    assert_eq!(rt; count(rt, &load_call(rt.alloc())?)?, 6);
+    assert_eq!(rt; count(rt, &expiry(rt.alloc())?)?, 15);
+    assert_eq!(rt; count(rt, &draw_item(rt.alloc(), inputs::BLOCK)?)?, 22);
+    assert_eq!(rt; count(rt, &make_item(rt.alloc(), inputs::BLOCK)?)?, 34);
+    assert_eq!(rt; count(rt, &remove_item(rt.alloc())?)?, 1);
+    assert_eq!(rt; count(rt, &keep_item(rt.alloc()))?, 0);
     Ok(())
 }

@@ -2,7 +2,7 @@
 //! behind it where the entries are wanted, and the report.
 
 /// How many cases there are.
-pub const COUNT: u64 = 34;
+pub const COUNT: u64 = 36;
 
 pub const CASES: &str = r"=== a set and a get
 geometry 1 1 3
@@ -24,6 +24,19 @@ sent 0 STORED\r\n
 sent 0 VALUE a 5 2\r\nhi\r\n
 sent 0 VALUE a 5 2\r\nhi\r\nEND\r\n
 took 0 3
+end ok
+=== a delete
+geometry 1 1 3
+open 0 plain
+say 0 set a 0 0 1\r\nx\r\ndelete a\r\nget a\r\ndelete a\r\ndelete a 0 noreply\r\ndelete a 1\r\n
+drain
+--- 0
+sent 0 STORED\r\n
+sent 0 DELETED\r\n
+sent 0 END\r\n
+sent 0 NOT_FOUND\r\n
+sent 0 CLIENT_ERROR bad command line format\r\n
+took 0 5
 end ok
 === a value over the limit
 geometry 1 1 3
@@ -370,6 +383,17 @@ drain
 abort 0 0 first bucket
 took 0 0
 left 0 7
+end aborted
+=== no bucket is lent where a slot is asked for
+geometry 1 1 3
+open 0 plain
+fault 0 0 take at 0 jump first 266
+say 0 set a 0 0 1\r\nx\r\n
+drain
+--- 3
+abort 0 0 first budget
+took 0 0
+left 0 16
 end aborted
 === a wrong time
 geometry 1 1 3

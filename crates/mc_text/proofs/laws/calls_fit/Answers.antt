@@ -1,5 +1,5 @@
-use Rattle.mc_text.proofs.FitLaws.{calls_fit}
+use Rattle.mc_text.proofs.PublicCalls.{calls_fit, calls_hold_bytes}
 use Rattle.mc_text.proofs.laws.calls_fit.Goals as goal
 
 pub returns : goal.returns
-returns c = calls_fit
+returns c = record { fit = calls_fit; bytes = calls_hold_bytes }

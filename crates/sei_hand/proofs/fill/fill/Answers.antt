@@ -6,9 +6,10 @@ use Rattle.mc_model.specs.declared.geometry.Geometry.{Geometry}
 use Rattle.mc_model.specs.Packed.{pack}
 use Rattle.mc_model.specs.Call.{Call}
 use Rattle.mc_model.specs.Views.{call_of}
-use Rattle.mc_model.proofs.PackLaws.{length_pack}
+use Rattle.mc_model.proofs.PublicPacking.{length_pack}
 use Rattle.sei_stmt.specs.Handling.{refilled}
-use Rattle.sei_hand.specs.InputWords.{field_words, filled_up, key_words, input_words, input_room}
+use Rattle.sei_hand.specs.InputWords.{field_words, filled_up, key_words, input_words}
+use Rattle.sei_pass.specs.Spaces.{input_room}
 use Rattle.sei_hand.proofs.FillLaws.{goes_in, filled_in, room_left}
 use Rattle.sei_hand.proofs.InputLaws.{length_filled_up}
 use Rattle.sei_hand.proofs.fill.fill.Goals as goal

@@ -1,8 +1,8 @@
 use Rattle.std.proofs.Common.{ap, arith}
 use Rattle.std.specs.Option.{option_map}
-use Rattle.sei_hand.specs.InputWords.{input_room}
+use Rattle.sei_pass.specs.Spaces.{input_room}
 use Rattle.sei_hand.specs.Requests.{parsed_of}
-use Rattle.sei_hand.proofs.ByteLaws.{found_bytes}
+use Rattle.sei_hand.proofs.RequestLaws.{found_bytes}
 use Rattle.sei_hand.proofs.InputLaws.{length_input_words}
 use Rattle.sei_hand.proofs.RequestLaws.{found_call}
 use Rattle.sei_hand.proofs.ReadLaws.{comes_from, words_fit}

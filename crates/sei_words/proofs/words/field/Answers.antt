@@ -1,5 +1,5 @@
 use Rattle.std.proofs.Common.{arith}
-use Rattle.sei_words.proofs.LayoutLaws.{field_within}
+use Rattle.sei_words.proofs.PublicLayout.{field_within}
 use Rattle.sei_words.proofs.words.field.Goals as goal
 
 pub bounds-words-begin : goal.bounds-words-begin

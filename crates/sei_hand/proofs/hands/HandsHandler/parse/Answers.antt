@@ -1,7 +1,7 @@
 use Rattle.std.proofs.Common.{◌≤◌, subst, sym}
 use Rattle.mc_model.specs.declared.geometry.Geometry.{Geometry}
 use Rattle.mc_model.specs.Views.{placed_of}
-use Rattle.sei_hand.specs.InputWords.{input_room}
+use Rattle.sei_pass.specs.Spaces.{input_room}
 use Rattle.sei_hand.proofs.ReadLaws.{room_needed}
 use Rattle.sei_hand.proofs.hands.HandsHandler.parse.Goals as goal
 

@@ -10,7 +10,7 @@ invariant_of-result c =
     let g = c.args.geometry in (
       c.in-Ok.ensures.made,
       record {
-        geometry = c.in_ok-new.ensures.geometry;
+        space = c.in_ok-new.ensures.space;
         valid = c.requires;
         laid_out = subst (λ (bs : List BucketWords). All (IsOfGeometry g) bs) (sym c.in_ok-fresh_buckets.ensures) (fresh_laid_out g);
       },

@@ -4,7 +4,7 @@ use Rattle.mc_model.specs.Views.{placed_of}
 use Rattle.sei_stmt.specs.Handling.{parsed_words}
 use Rattle.sei_pass.specs.declared.given.Sealed.{Sealed}
 use Rattle.sei_pass.specs.Setting.{sealed_call}
-use Rattle.sei_pass.specs.State.{input_room}
+use Rattle.sei_pass.specs.Spaces.{input_room}
 use Rattle.sei_hand.specs.Requests.{parsed_call}
 use Rattle.sei_main.specs.Tables.{Tables}
 use Rattle.sei_main.proofs.TableCalls.{bytes_of, asked_of, sealed_is, words_go_in}

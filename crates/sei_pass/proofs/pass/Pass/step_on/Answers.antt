@@ -5,6 +5,7 @@ pub invariant_of-self : goal.invariant_of-self
 invariant_of-self g c = record {
   pass = record {
     valid = c.self.invariant.pass.valid;
+    space = c.self.invariant.pass.space;
     registers = c.step.ensures.rooms.registers ∙ c.self.invariant.pass.registers;
     input = c.step.ensures.rooms.input ∙ c.self.invariant.pass.input;
     output = c.step.ensures.rooms.output ∙ c.self.invariant.pass.output;
@@ -20,6 +21,7 @@ invariant_of-self g c = record {
 pub returns-clause-pass : goal.returns-clause-pass
 returns-clause-pass g c = record {
   valid = c.self.invariant.pass.valid;
+  space = c.self.invariant.pass.space;
   registers = c.step.ensures.rooms.registers ∙ c.self.invariant.pass.registers;
   input = c.step.ensures.rooms.input ∙ c.self.invariant.pass.input;
   output = c.step.ensures.rooms.output ∙ c.self.invariant.pass.output;

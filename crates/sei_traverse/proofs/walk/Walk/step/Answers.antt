@@ -9,7 +9,7 @@ use Rattle.sei_traverse.proofs.walk.Walk.step.Goals as goal
 
 pub returns-in-None-clause-turned : goal.returns-in-None-clause-turned
 returns-in-None-clause-turned g c =
-    let given = given_of (service_of (g.H.Handler.statements c.args.hands.now) (g.H.Handler.call_count c.args.hands.now) (g.H.Handler.parsed c.args.hands.now) (g.H.Handler.rendered c.args.hands.now)) c.args.input.now c.args.g.now (bucket_of (g.L.Lent.loan c.args.lent.now)) in
+    let given = given_of (service_of (g.H.Handler.statements c.args.hands.now) (g.H.Handler.call_count c.args.hands.now) (g.H.Handler.parsed c.args.hands.now) (g.H.Handler.rendered c.args.hands.now)) c.args.input.now c.args.space.now (bucket_of (g.L.Lent.loan c.args.lent.now)) in
     let words = words_of (g.L.Lent.loan c.args.lent.now) in
     let told = g.C.Clock.told c.args.clock.now in
     let v : Walk = record c.args.self.now { want = Nothing } in
@@ -17,7 +17,7 @@ returns-in-None-clause-turned g c =
 
 pub returns-in-Some-clause-turned : goal.returns-in-Some-clause-turned
 returns-in-Some-clause-turned g c =
-    let given = given_of (service_of (g.H.Handler.statements c.args.hands.now) (g.H.Handler.call_count c.args.hands.now) (g.H.Handler.parsed c.args.hands.now) (g.H.Handler.rendered c.args.hands.now)) c.args.input.now c.args.g.now (bucket_of (g.L.Lent.loan c.args.lent.now)) in
+    let given = given_of (service_of (g.H.Handler.statements c.args.hands.now) (g.H.Handler.call_count c.args.hands.now) (g.H.Handler.parsed c.args.hands.now) (g.H.Handler.rendered c.args.hands.now)) c.args.input.now c.args.space.now (bucket_of (g.L.Lent.loan c.args.lent.now)) in
     let words = words_of (g.L.Lent.loan c.args.lent.now) in
     let told = g.C.Clock.told c.args.clock.now in
     let v : Walk = record c.args.self.now { want = Nothing } in

@@ -1,0 +1,2 @@
+pub mod ShowEnds
+pub mod PublicRead
