@@ -1,5 +1,5 @@
 -- What a pass over the hands' table asks of what it is given, and what it keeps.
-use Rattle.std.proofs.Common.{◌≡◌, ℕ, ◌≤◌, List, length, Option, None, Some, refl, ap, arith}
+use Rattle.std.proofs.Common.{◌≡◌, ℕ, ◌≤◌, List, length, Option, None, Some, ap, arith}
 use Rattle.sei_code.specs.Coded.{read_of}
 use Rattle.sei_code.specs.declared.coded.Coded.{Coded}
 use Rattle.mc_model.specs.declared.geometry.Geometry.{Geometry}

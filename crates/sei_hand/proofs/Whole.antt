@@ -79,7 +79,7 @@ module _ (g : Geometry) (valid : IsValid g) (setting : Setting) (pass : IsPassOf
       let last = Block (Render ∷ []) in (
         refl,
         seq given mover (moment_program g) (Seq load_marks (Seq dispatch last)) s (Arrived g now b 30 1) Q refl
-            (moment_stands g given s b 30 1 h.stands refl refl (omega arith) (omega arith) (omega arith))
+            (moment_stands g given s b 30 1 h.stands refl refl refl (omega arith) (omega arith) (omega arith))
             (λ t f a.
             let can' = can t.words (arrived now b) (record { stands = a.stands; bounded = arrived_bounded now b small h.bounded }) in
             let timed : Timed g t.words (arrived now b) t = record { same = refl; time = a.stage; low = omega (arith, a.floor); few = a.stores; silent = f.emitted refl; empty = f.out refl; constants = a.constants } in

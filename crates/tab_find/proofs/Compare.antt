@@ -11,7 +11,7 @@ use Rattle.sei_stmt.specs.Touch.{Framed}
 use Rattle.sei_stmt.proofs.FrameLaws.{repeat}
 use Rattle.tab_find.specs.FindPrograms.{compare_turn, compare_key}
 use Rattle.tab_find.specs.Inputs.{key_index}
-use Rattle.tab_find.specs.Registers.{r_key_end, r_place, r_base, r_address, r_index}
+use Rattle.tab_find.specs.Registers.{r_place, r_base, r_address, r_index, r_limit}
 use Rattle.tab_find.proofs.MachineLaws.{sum_is}
 use Rattle.tab_find.proofs.SlotReads.{word_stands, loads, goes_on}
 use Rattle.tab_find.proofs.Ready.{Seeks, IsReady, ready_framed, looking, looking_low}
@@ -42,6 +42,7 @@ module _ (g : Geometry) (e : Given) (ws : List ℕ) (m : ℕ) (key : List ℕ) (
     differs : Same spot → ⊥
 
   record Turned (bound n : ℕ) (t : RunState) : Type 0 where
+    limit : t.regs r_limit ≡ key_index + count
     left : key_index + count ≤ t.regs r_index + n
     steps : t.steps + 7 * n ≤ bound
     state : Going t ⊎ Differs t
@@ -51,8 +52,8 @@ module _ (g : Geometry) (e : Given) (ws : List ℕ) (m : ℕ) (key : List ℕ) (
     pub steps : t.steps ≤ bound
     pub found : ((t.regs r_place ≡ slot_at g i) × ((j : ℕ) → j < count → Same j)) ⊎ ((t.regs r_place ≡ word_count g) × (((j : ℕ) → j < count → Same j) → ⊥))
 
-  turn_ends : (t : RunState) (bound n : ℕ) → IsReady g ws m key t → (go : Going t) → go.seen < count → count ≤ go.seen + suc n → t.steps + 6 + 7 * n ≤ bound → Ends e compare_turn t (Turned bound n)
-  turn_ends t bound n r go more left steps =
+  turn_ends : (t : RunState) (bound n : ℕ) → IsReady g ws m key t → t.regs r_limit ≡ key_index + count → (go : Going t) → go.seen < count → count ≤ go.seen + suc n → t.steps + 6 + 7 * n ≤ bound → Ends e compare_turn t (Turned bound n)
+  turn_ends t bound n r limit go more left steps =
       let j = go.seen in
       let call = seeks.call in
       let room : key_offset + j < value_offset = omega (arith, more, call.fits) in (
@@ -69,33 +70,32 @@ module _ (g : Geometry) (e : Given) (ws : List ℕ) (m : ℕ) (key : List ℕ) (
               (
                 key_index + (j + 1),
                 sum_is _ _ _ (omega (arith, go.index, r.constants.one)) (omega (arith, more, call.fits)),
-                record { left = omega (arith, left); steps = omega (arith, steps); state = inl (record { seen = j + 1; place = go.place; address = omega arith; index = refl; within = omega (arith, more); same = below_more Same j go.same eq }) },
+                record { limit = limit; left = omega (arith, left); steps = omega (arith, steps); state = inl (record { seen = j + 1; place = go.place; address = omega arith; index = refl; within = omega (arith, more); same = below_more Same j go.same eq }) },
               ),
             ),
-            λ ne. record { left = omega (arith, r.loaded.key_end); steps = omega (arith, steps); state = inr (record { place = r.constants.ends; over = r.loaded.key_end; spot = j; within = more; differs = ne }) },
+            λ ne. record { limit = limit; left = omega (arith, limit); steps = omega (arith, steps); state = inr (record { place = r.constants.ends; over = limit; spot = j; within = more; differs = ne }) },
           ),
         ),
       )
 
   module _ (s : RunState) (bound limit : ℕ) (r : IsReady g ws m key s) (more : bound + 1 ≤ limit) where
-    next : (n : ℕ) (t : RunState) → Framed looking s t → Turned bound n t → t.regs r_index < t.regs r_key_end → (k : ℕ) × (suc k ≡ n) × Ends e compare_turn (tick t) (Turned bound k)
+    next : (n : ℕ) (t : RunState) → Framed looking s t → Turned bound n t → t.regs r_index < t.regs r_limit → (k : ℕ) × (suc k ≡ n) × Ends e compare_turn (tick t) (Turned bound k)
     next n t f it h = by_state n it.left it.steps it.state
       where
         rt : IsReady g ws m key t
         rt = ready_framed looking g ws m key s t refl refl looking_low f r
 
         by_state : (n : ℕ) → key_index + count ≤ t.regs r_index + n → t.steps + 7 * n ≤ bound → (Going t ⊎ Differs t) → (k : ℕ) × (suc k ≡ n) × Ends e compare_turn (tick t) (Turned bound k)
-        by_state zero left steps state = absurd (omega (arith, left, h, rt.loaded.key_end))
+        by_state zero left steps state = absurd (omega (arith, left, h, it.limit))
         by_state (suc k) left steps (inl go) =
             let there : Going (tick t) = record { seen = go.seen; place = go.place; address = go.address; index = go.index; within = go.within; same = go.same } in
-            (k, refl, turn_ends (tick t) bound k rt there (omega (arith, h, go.index, rt.loaded.key_end)) (omega (arith, left, go.index)) (omega (arith, steps)))
-        by_state (suc k) left steps (inr d) = absurd (omega (arith, d.over, h, rt.loaded.key_end))
+            (k, refl, turn_ends (tick t) bound k rt it.limit there (omega (arith, h, go.index, it.limit)) (omega (arith, left, go.index)) (omega (arith, steps)))
+        by_state (suc k) left steps (inr d) = absurd (omega (arith, d.over, h, it.limit))
 
-    done : (n : ℕ) (t : RunState) → Framed looking s t → Turned bound n t → t.regs r_key_end ≤ t.regs r_index → Compared limit (tick t)
+    done : (n : ℕ) (t : RunState) → Framed looking s t → Turned bound n t → t.regs r_limit ≤ t.regs r_index → Compared limit (tick t)
     done n t f it le =
-        let rt = ready_framed looking g ws m key s t refl refl looking_low f r in
         elim it.state [
-          | inl go ↦ record { steps = omega (arith, it.steps, more); found = inl (go.place, λ j h. go.same j (omega (arith, h, le, go.index, rt.loaded.key_end))) }
+          | inl go ↦ record { steps = omega (arith, it.steps, more); found = inl (go.place, λ j h. go.same j (omega (arith, h, le, go.index, it.limit))) }
           | inr d ↦ record { steps = omega (arith, it.steps, more); found = inr (d.place, λ all. d.differs (all d.spot d.within)) }
         ]
 
@@ -104,9 +104,13 @@ module _ (g : Geometry) (e : Given) (ws : List ℕ) (m : ℕ) (key : List ℕ) (
       let most = s.steps + 7 * key_room + 9 in (
         slot_at g i + (0 + key_offset),
         goes_on g i _ _ 0 key_offset seeks.valid lt (omega (arith, base)) refl (omega arith),
-        repeat e looking r_index r_key_end compare_turn _ (Turned most) (Compared bound) refl
-            (next _ most bound r (omega (arith, steps)))
-            (done _ most bound r (omega (arith, steps)))
-            (key_room - 1)
-            (turn_ends _ most (key_room - 1) r (record { seen = 0; place = base; address = omega arith; index = omega arith; within = omega arith; same = λ j h. absurd (omega (arith, h)) }) (omega (arith, seeks.some)) (omega (arith, seeks.call.fits)) (omega arith)),
+        (
+          key_index + count,
+          sum_is _ _ _ (omega (arith, r.loaded.key_words)) (omega (arith, seeks.call.fits)),
+          repeat e looking r_index r_limit compare_turn _ (Turned most) (Compared bound) refl
+              (next _ most bound r (omega (arith, steps)))
+              (done _ most bound r (omega (arith, steps)))
+              (key_room - 1)
+              (turn_ends _ most (key_room - 1) r refl (record { seen = 0; place = base; address = omega arith; index = omega arith; within = omega arith; same = λ j h. absurd (omega (arith, h)) }) (omega (arith, seeks.some)) (omega (arith, seeks.call.fits)) (omega arith)),
+        ),
       )

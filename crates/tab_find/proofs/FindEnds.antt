@@ -14,7 +14,7 @@ use Rattle.sei_stmt.proofs.FrameLaws.{repeat, seq}
 use Rattle.tab_find.specs.Answers.{HasConstants}
 use Rattle.tab_find.specs.FindPrograms.{look, find_turn, find_program}
 use Rattle.tab_find.specs.Found.{HasKeyLoaded}
-use Rattle.tab_find.specs.Inputs.{key_length_index, hash_index, key_words_index, key_index}
+use Rattle.tab_find.specs.Inputs.{key_length_index, hash_index, key_words_index}
 use Rattle.tab_find.specs.Registers.{r_one, r_width, r_place, r_base}
 use Rattle.tab_find.proofs.MachineLaws.{sum_is}
 use Rattle.tab_find.proofs.SlotReads.{word_stands}
@@ -132,11 +132,7 @@ module _ (g : Geometry) (e : Given) (ws : List ℕ) (m : ℕ) (key : List ℕ) (
             parsed,
             words_for (length key),
             word_stands e.input key_words_index key_words_index (words_for (length key)) refl (omega (arith, call.room)) call.key_words,
-            (
-              key_index + words_for (length key),
-              sum_is _ _ _ refl (omega (arith, call.fits)),
-              walk_ends _ bound (record { same = same; parsed = parsed; constants = constants; loaded = record { key_length = refl; hash = refl; key_words = refl; key_end = refl } }) refl constants.ends (omega (arith, steps)),
-            ),
+            walk_ends _ bound (record { same = same; parsed = parsed; constants = constants; loaded = record { key_length = refl; hash = refl; key_words = refl } }) refl constants.ends (omega (arith, steps)),
           ),
         ),
       )

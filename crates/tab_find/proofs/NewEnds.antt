@@ -1,6 +1,6 @@
 -- What the program of a new item's fields and key leaves.
-use Rattle.std.proofs.Common.{◌≡◌, ◌≢◌, ℕ, ◌+◌, ◌^◌, ◌<◌, ◌≤◌, inl, inr, List, length, refl, sym, ap, ◌∙◌, arith}
-use Rattle.std.specs.Prelude.{slice_index, false}
+use Rattle.std.proofs.Common.{◌≡◌, ◌≢◌, ℕ, ◌+◌, ◌^◌, ◌<◌, ◌≤◌, inl, inr, List, length, refl, ap, ◌∙◌, arith}
+use Rattle.std.specs.Prelude.{slice_index, true, false, nat_eq, ◌||◌, [], ◌∷◌}
 use Rattle.mc_model.specs.declared.geometry.Geometry.{Geometry}
 use Rattle.mc_model.specs.Bucket.{Item, Bucket}
 use Rattle.mc_model.specs.Packed.{pack}
@@ -10,18 +10,28 @@ use Rattle.sei_words.specs.Changes.{OnlyFields, HasFields}
 use Rattle.sei_words.proofs.PublicLayout.{slot_floor, slot_within, width_is, few_words}
 use Rattle.sei_stmt.specs.Order.{is_parsed}
 use Rattle.sei_stmt.specs.Runs.{Given, RunState}
-use Rattle.sei_stmt.specs.Programs.{Ends}
+use Rattle.sei_stmt.specs.declared.stmt.Stmt.TheVariants.{Add}
+use Rattle.sei_stmt.specs.Programs.{Prog, Block, Seq, Ends}
+use Rattle.sei_stmt.specs.Touch.{Touch}
 use Rattle.sei_stmt.proofs.FrameLaws.{seq, then_so}
 use Rattle.tab_find.specs.Calls.{HasKey}
 use Rattle.tab_find.specs.Found.{HasKeyLoaded}
 use Rattle.tab_find.specs.Inputs.{key_index}
-use Rattle.tab_find.specs.Registers.{r_zero, r_one, r_key_end, r_place, r_value_words}
+use Rattle.tab_find.specs.Registers.{r_zero, r_one, r_key_words, r_place, r_index, r_limit, r_value_words}
 use Rattle.tab_find.specs.StorePrograms.{new_head, new_fields, copy_run}
 use Rattle.tab_find.specs.Copies.{IsCopied, Copied}
 use Rattle.tab_find.proofs.Copy.{put_all, put_all_size, put_all_off, put_all_stored, copier, copy_run_ends}
 use Rattle.tab_find.proofs.FieldStores.{fielder, head_of, Headed, new_head_end}
 use Rattle.tab_find.proofs.ItemEnds.{FieldsStored}
+use Rattle.tab_find.proofs.MachineLaws.{sum_is}
 use Rattle.tab_find.proofs.FieldEnds.{CanStoreFields, value_follows, others_stay, head_stays}
+
+-- the copy of the key, with its limit
+abbrev key_copy : Prog
+key_copy = Seq (Block (Add r_limit r_index r_key_words ∷ [])) (copy_run r_limit)
+
+abbrev key_copier : Touch
+key_copier = record { regs = λ r. nat_eq r r_limit || copier.regs r; words = true; out = false; stage = false }
 
 module _ (g : Geometry) (e : Given) (ws : List ℕ) (b : Bucket) (counter i index w : ℕ) (k : List ℕ) (x : Item) (u : RunState) (can : CanStoreFields g e ws b counter i index w x u) (key : HasKey e.input k) (some : 1 ≤ length k) (loaded : HasKeyLoaded k u) where
   -- the words of slot i after its head and its key were stored, which come to t and then to y
@@ -70,15 +80,15 @@ module _ (g : Geometry) (e : Given) (ws : List ℕ) (b : Bucket) (counter i inde
       let long = length_pack k in
       let fits = key.fits in
       let Done = FieldsStored g e ws b counter i index k x (u.steps + 180) (u.stores + value_offset) in
-      seq e fielder new_head (copy_run r_key_end) u (Headed u (u.regs r_place)) Done refl
+      seq e fielder new_head key_copy u (Headed u (u.regs r_place)) Done refl
       (new_head_end e u can.one (omega (arith, can.low, slot_floor g i, can.place)) (omega (arith, can.place, room)) little (omega (arith, logs)))
       (λ t f d.
       let is : t.words ≡ put_all u.words (slot_at g i) (head_of u) = d.words ∙ ap (λ q. put_all u.words q (head_of u)) can.place in
       let size : length t.words ≡ length u.words = f.size in
-      then_so e copier (copy_run r_key_end) t (Copied (pack k) t.words (slot_at g i + key_offset) (u.steps + 180) (u.stores + value_offset)) Done refl
+      then_so e key_copier key_copy t (Copied (pack k) t.words (slot_at g i + key_offset) (u.steps + 180) (u.stores + value_offset)) Done refl
       (λ y fy c.
       let o = only_fields t.words y.words is c.copied in
-      let still = λ (r : ℕ) (h : copier.regs r ≡ false) (h' : fielder.regs r ≡ false). fy.regs r h ∙ f.regs r h' in
+      let still = λ (r : ℕ) (h : key_copier.regs r ≡ false) (h' : fielder.regs r ≡ false). fy.regs r h ∙ f.regs r h' in
       record {
         steps = c.steps;
         stores = c.stores;
@@ -87,20 +97,23 @@ module _ (g : Geometry) (e : Given) (ws : List ℕ) (b : Bucket) (counter i inde
         used = now_used t.words y.words is c.copied;
         fields = fields_are t.words y.words is c.copied;
         can = value_follows g e ws b counter i index w k x u can y (fy.stage refl ∙ f.stage refl) (still r_zero refl refl) (still r_one refl refl) (still r_place refl refl) (still r_value_words refl refl) o (omega (arith, c.floor, long, fits));
-      })
-      (copy_run_ends e r_key_end key_index (pack k) t.words (slot_at g i + key_offset) (u.steps + 180) (u.stores + value_offset) t
-      (record {
-        some = omega (arith, long, some);
-        same = refl;
-        parsed = ap is_parsed (f.stage refl) ∙ can.parsed;
-        low = omega (arith, d.floor, can.place);
-        one = f.regs r_one refl ∙ can.one;
-        address = omega (arith, d.address, can.place);
-        begins = d.index;
-        ends = f.regs r_key_end refl ∙ loaded.key_end ∙ ap (λ n. key_index + n) (sym long);
-        room = omega (arith, size, room, long, fits);
-        small = omega (arith, size, little);
-        few = omega (arith, long, fits);
-        there = omega (arith, long, fits, key.room);
-        stored = key.words;
-      }) logs refl (omega (arith, d.stores, long, fits)) (omega (arith, d.steps, long, fits))))
+      }) (
+        key_index + length (pack k),
+        sum_is _ _ _ (omega (arith, d.index, f.regs r_key_words refl, loaded.key_words, long)) (omega (arith, long, fits)),
+        copy_run_ends e r_limit key_index (pack k) t.words (slot_at g i + key_offset) (u.steps + 180) (u.stores + value_offset) _
+            (record {
+              some = omega (arith, long, some);
+              same = refl;
+              parsed = ap is_parsed (f.stage refl) ∙ can.parsed;
+              low = omega (arith, d.floor, can.place);
+              one = f.regs r_one refl ∙ can.one;
+              address = omega (arith, d.address, can.place);
+              begins = d.index;
+              ends = refl;
+              room = omega (arith, size, room, long, fits);
+              small = omega (arith, size, little);
+              few = omega (arith, long, fits);
+              there = omega (arith, long, fits, key.room);
+              stored = key.words;
+            }) logs refl (omega (arith, d.stores, long, fits)) (omega (arith, d.steps, long, fits)),
+      ))

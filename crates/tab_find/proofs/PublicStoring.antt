@@ -21,7 +21,7 @@ use Rattle.sei_stmt.proofs.FrameLaws.{seq, then_so}
 use Rattle.tab_find.specs.Answers.{HasConstants}
 use Rattle.tab_find.specs.Calls.{HasKey}
 use Rattle.tab_find.specs.Found.{IsPresent, IsGiven, HasKeyLoaded, Changed}
-use Rattle.tab_find.specs.Registers.{r_zero, r_one, r_key_length, r_hash, r_key_words, r_key_end, r_place, r_flags, r_expiry, r_value_length, r_value_words}
+use Rattle.tab_find.specs.Registers.{r_zero, r_one, r_key_length, r_hash, r_key_words, r_place, r_flags, r_expiry, r_value_length, r_value_words}
 use Rattle.tab_find.specs.StorePrograms.{draw, replace_fields, new_fields, store_value, keep_program, draw_program, make_program, remove_program}
 use Rattle.tab_find.proofs.FieldEnds.{CanStoreFields, replace_ends}
 use Rattle.tab_find.proofs.FieldStores.{fielder}
@@ -131,7 +131,6 @@ make_ends g e ws b key x index w valid h call some none s bound most given key_l
       key_length = f.regs r_key_length refl ∙ key_loaded.key_length;
       hash = f.regs r_hash refl ∙ key_loaded.hash;
       key_words = f.regs r_key_words refl ∙ key_loaded.key_words;
-      key_end = f.regs r_key_end refl ∙ key_loaded.key_end;
     } in
     new_ends g e ws b x.unique given.slot index w key x u can call some key_still (omega (arith, few, stores, logs)))
     bound most floor (omega (arith, stores)) logs (omega (arith, steps)))

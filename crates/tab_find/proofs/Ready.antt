@@ -13,7 +13,7 @@ use Rattle.sei_stmt.specs.Touch.{Touch, Framed}
 use Rattle.tab_find.specs.Answers.{Constants}
 use Rattle.tab_find.specs.Calls.{HasKey}
 use Rattle.tab_find.specs.Found.{KeyLoaded}
-use Rattle.tab_find.specs.Registers.{r_zero, r_moment, r_one, r_expiry_offset, r_width, r_end, r_key_length, r_hash, r_key_words, r_key_end, r_place, r_address, r_passed}
+use Rattle.tab_find.specs.Registers.{r_zero, r_moment, r_one, r_expiry_offset, r_width, r_end, r_key_length, r_hash, r_key_words, r_place, r_address, r_passed}
 
 -- What stays through a find: words of a bucket at this moment, and the input words of this key. The expiry of a taken slot is a
 -- number of 64 bits.
@@ -26,16 +26,16 @@ pub record Seeks (g : Geometry) (e : Given) (ws : List ℕ) (m : ℕ) (key : Lis
   pub some : 1 ≤ length key
 
 -- the words, the stage, the constants and the call's key
-pub record Ready (g : Geometry) (ws : List ℕ) (m : ℕ) (key words : List ℕ) (stage r0 r1 r2 r3 r4 r5 r6 r7 r8 r9 : ℕ) : Type 0 where
+pub record Ready (g : Geometry) (ws : List ℕ) (m : ℕ) (key words : List ℕ) (stage r0 r1 r2 r3 r4 r5 r6 r7 r8 : ℕ) : Type 0 where
   pub same : words ≡ ws
   pub parsed : IsParsed stage
   pub constants : Constants g m r0 r1 r2 r3 r4 r5
-  pub loaded : KeyLoaded key r6 r7 r8 r9
+  pub loaded : KeyLoaded key r6 r7 r8
 
 -- the same of a state. A write of any other register leaves this very type
 abbrev pub IsReady : Geometry → List ℕ → ℕ → List ℕ → RunState → Type 0
 IsReady g ws m key s =
-    Ready g ws m key s.words s.stage (s.regs r_zero) (s.regs r_moment) (s.regs r_one) (s.regs r_expiry_offset) (s.regs r_width) (s.regs r_end) (s.regs r_key_length) (s.regs r_hash) (s.regs r_key_words) (s.regs r_key_end)
+    Ready g ws m key s.words s.stage (s.regs r_zero) (s.regs r_moment) (s.regs r_one) (s.regs r_expiry_offset) (s.regs r_width) (s.regs r_end) (s.regs r_key_length) (s.regs r_hash) (s.regs r_key_words)
 
 -- the place and registers 12 to 17 alone, which the look at a slot writes
 abbrev pub looking : Touch
@@ -43,7 +43,7 @@ looking = record { regs = λ r. nat_eq r r_place || (nat_lt (r_address - 1) r &&
 
 -- registers 10 to 17 alone, which the walk through the slots writes
 abbrev pub walking : Touch
-walking = record { regs = λ r. nat_lt r_key_end r && nat_lt r (r_passed + 1); words = false; out = false; stage = false }
+walking = record { regs = λ r. nat_lt (r_place - 1) r && nat_lt r (r_passed + 1); words = false; out = false; stage = false }
 
 -- registers 6 to 17 alone, which the find writes
 abbrev pub finding : Touch
@@ -76,6 +76,5 @@ ready_framed w g ws m key s t dry still low f r =
         key_length = k r_key_length (omega arith) ∙ l.key_length;
         hash = k r_hash (omega arith) ∙ l.hash;
         key_words = k r_key_words (omega arith) ∙ l.key_words;
-        key_end = k r_key_end (omega arith) ∙ l.key_end;
       };
     }

@@ -6,12 +6,12 @@ use Rattle.sei_stmt.specs.declared.stmt.Stmt.{Stmt}
 use Rattle.sei_stmt.specs.declared.stmt.Stmt.TheVariants.{Alloc, Const, Move, Add, Sub, Input, Load, Store, Now}
 use Rattle.sei_stmt.specs.Programs.{Prog, Block, Seq, IfEq, IfLt, RepeatLt}
 use Rattle.tab_find.specs.Inputs.{hash_index, key_words_index, key_index}
-use Rattle.tab_find.specs.Registers.{r_zero, r_moment, r_one, r_expiry_offset, r_width, r_end, r_key_length, r_hash, r_key_words, r_key_end, r_place, r_base, r_address, r_word, r_index, r_other, r_slot}
+use Rattle.tab_find.specs.Registers.{r_zero, r_moment, r_one, r_expiry_offset, r_width, r_end, r_key_length, r_hash, r_key_words, r_place, r_base, r_address, r_word, r_index, r_limit, r_other, r_slot}
 
--- The moment. Word 0 and the moment's register become the largest of 1, the old moment and the time.
+-- The moment. Word 0 and the moment's register become the largest of 1, the old moment and the time. r_zero is 0 from the start.
 
 abbrev pub constants : Geometry → List Stmt
-constants g = Const r_zero 0 ∷ Const r_one 1 ∷ Const r_expiry_offset expiry_offset ∷ Const r_width (width g) ∷ Const r_end (word_count g) ∷ []
+constants g = Const r_one 1 ∷ Const r_expiry_offset expiry_offset ∷ Const r_width (width g) ∷ Const r_end (word_count g) ∷ []
 
 abbrev pub moment_program : Geometry → Prog
 moment_program g =
@@ -28,13 +28,13 @@ compare_turn =
     Seq (Block (Load r_word r_address ∷ Input r_other r_index ∷ []))
     (IfEq r_word r_other
     (Block (Add r_address r_address r_one ∷ Add r_index r_index r_one ∷ []))
-    (Block (Move r_place r_end ∷ Move r_index r_key_end ∷ [])))
+    (Block (Move r_place r_end ∷ Move r_index r_limit ∷ [])))
 
 -- the key words of the slot at the base against those of the input: the slot is the place, unless a word differs
 abbrev pub compare_key : Prog
 compare_key =
-    Seq (Block (Const r_address key_offset ∷ Add r_address r_base r_address ∷ Const r_index key_index ∷ Move r_place r_base ∷ []))
-    (RepeatLt r_index r_key_end compare_turn)
+    Seq (Block (Const r_address key_offset ∷ Add r_address r_base r_address ∷ Const r_index key_index ∷ Add r_limit r_index r_key_words ∷ Move r_place r_base ∷ []))
+    (RepeatLt r_index r_limit compare_turn)
 
 -- the key length, and then the key
 abbrev pub look_length : Prog
@@ -62,7 +62,7 @@ find_turn = Seq look (Block (Add r_base r_base r_width ∷ []))
 abbrev pub find_start : Prog
 find_start =
     Block (Input r_key_length r_one ∷ Const r_index hash_index ∷ Input r_hash r_index ∷ Const r_index key_words_index ∷ Input r_key_words r_index ∷
-    Const r_key_end key_index ∷ Add r_key_end r_key_end r_key_words ∷ Const r_base first_slot ∷ Move r_place r_end ∷ [])
+    Const r_base first_slot ∷ Move r_place r_end ∷ [])
 
 abbrev pub find_program : Prog
 find_program = Seq find_start (RepeatLt r_base r_place find_turn)

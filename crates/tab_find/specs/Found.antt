@@ -12,8 +12,7 @@ use Rattle.sei_words.specs.Stands.{Reads, StandsFor}
 use Rattle.sei_stmt.specs.Order.{timed, slotted}
 use Rattle.sei_stmt.specs.Runs.{RunState}
 use Rattle.tab_find.specs.Answers.{HasConstants}
-use Rattle.tab_find.specs.Inputs.{key_index}
-use Rattle.tab_find.specs.Registers.{r_key_length, r_hash, r_key_words, r_key_end, r_place}
+use Rattle.tab_find.specs.Registers.{r_key_length, r_hash, r_key_words, r_place}
 
 -- the key has this item, in the slot that begins at this place
 pub record IsPresent (g : Geometry) (ws : List ℕ) (b : Bucket) (key : List ℕ) (x : Item) (place : ℕ) : Type 0 where
@@ -58,14 +57,13 @@ pub record Arrived (g : Geometry) (now : ℕ) (b : Bucket) (bound most : ℕ) (t
   pub stands : StandsFor g t.words (arrived now b)
 
 -- the registers of the call's key
-pub record KeyLoaded (key : List ℕ) (r6 r7 r8 r9 : ℕ) : Type 0 where
+pub record KeyLoaded (key : List ℕ) (r6 r7 r8 : ℕ) : Type 0 where
   pub key_length : r6 ≡ length key
   pub hash : r7 ≡ fnv64 key
   pub key_words : r8 ≡ words_for (length key)
-  pub key_end : r9 ≡ key_index + words_for (length key)
 
 abbrev pub HasKeyLoaded : List ℕ → RunState → Type 0
-HasKeyLoaded key s = KeyLoaded key (s.regs r_key_length) (s.regs r_hash) (s.regs r_key_words) (s.regs r_key_end)
+HasKeyLoaded key s = KeyLoaded key (s.regs r_key_length) (s.regs r_hash) (s.regs r_key_words)
 
 -- after the find
 pub record Sought (g : Geometry) (ws : List ℕ) (b : Bucket) (key : List ℕ) (bound : ℕ) (t : RunState) : Type 0 where

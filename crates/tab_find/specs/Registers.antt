@@ -25,8 +25,7 @@ r_width = 4
 abbrev pub r_end : ℕ
 r_end = 5
 
--- 6 to 9 are the call's key, which the find loads: its length in bytes, its hash, the number of its words, and the index
--- after its last word among the input words
+-- 6 to 8 are the call's key, which the find loads: its length in bytes, its hash, and the number of its words
 
 abbrev pub r_key_length : ℕ
 r_key_length = 6
@@ -36,9 +35,6 @@ r_hash = 7
 
 abbrev pub r_key_words : ℕ
 r_key_words = 8
-
-abbrev pub r_key_end : ℕ
-r_key_end = 9
 
 -- the address at which the slot begins that was found or given, or the address after the last slot if there is none
 abbrev pub r_place : ℕ

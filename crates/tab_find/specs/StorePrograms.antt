@@ -6,7 +6,7 @@ use Rattle.sei_stmt.specs.declared.stmt.Stmt.{Stmt}
 use Rattle.sei_stmt.specs.declared.stmt.Stmt.TheVariants.{Const, Move, Add, Input, Load, Store}
 use Rattle.sei_stmt.specs.Programs.{Prog, Block, Seq, IfEq, IfLt, RepeatLt}
 use Rattle.tab_find.specs.Inputs.{flags_index, negative_index, exptime_index, block_length_index, block_words_index, key_index}
-use Rattle.tab_find.specs.Registers.{r_zero, r_moment, r_one, r_key_length, r_hash, r_key_end, r_place, r_address, r_word, r_index, r_limit, r_flags, r_expiry, r_unique, r_value_length, r_value_words}
+use Rattle.tab_find.specs.Registers.{r_zero, r_moment, r_one, r_key_length, r_hash, r_key_words, r_place, r_address, r_word, r_index, r_limit, r_flags, r_expiry, r_unique, r_value_length, r_value_words}
 
 -- Runs of words.
 
@@ -49,7 +49,7 @@ new_head =
 
 -- a new item in the slot at r_place has these fields and the call's key
 abbrev pub new_fields : Prog
-new_fields = Seq new_head (copy_run r_key_end)
+new_fields = Seq new_head (Seq (Block (Add r_limit r_index r_key_words ∷ [])) (copy_run r_limit))
 
 -- One program for each kind of change that a call can make at its key. Each ends a command.
 

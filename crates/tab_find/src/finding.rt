@@ -22,7 +22,6 @@ pub fn moment(alloc: Global, g: &Geometry) -> Result<Program, Memory>
         alloc,
         &[
             Stmt::Now { to: WORD },
-            set(ZERO, 0),
             set(ONE, 1),
             set(EXPIRY_OFFSET, layout::EXPIRY),
             set(WIDTH, layout::width(g)),
@@ -44,7 +43,7 @@ fn compare_turn(alloc: Global) -> Result<Program, Memory>
 {
     let words = Program::block(alloc, &[load(WORD, ADDRESS), input(OTHER, INDEX)])?;
     let next = Program::block(alloc, &[NEXT_ADDRESS, NEXT_INDEX])?;
-    let differs = Program::block(alloc, &[copy(PLACE, END), copy(INDEX, KEY_END)])?;
+    let differs = Program::block(alloc, &[copy(PLACE, END), copy(INDEX, LIMIT)])?;
     words.then(alloc, Program::if_eq(alloc, WORD, OTHER, next, differs)?)
 }
 
@@ -58,11 +57,12 @@ fn compare_key(alloc: Global) -> Result<Program, Memory>
             set(ADDRESS, layout::KEY),
             add(ADDRESS, BASE, ADDRESS),
             set(INDEX, inputs::KEY),
+            add(LIMIT, INDEX, KEY_WORDS),
             copy(PLACE, BASE),
         ],
     )?;
     let turn = compare_turn(alloc)?;
-    start.then(alloc, Program::repeat_lt(alloc, INDEX, KEY_END, turn)?)
+    start.then(alloc, Program::repeat_lt(alloc, INDEX, LIMIT, turn)?)
 }
 
 /// Looks at the key length of the slot at the base, and then at its key.
@@ -132,8 +132,6 @@ fn find_start(alloc: Global) -> Result<Program, Memory>
             input(HASH, INDEX),
             set(INDEX, inputs::KEY_WORDS),
             input(KEY_WORDS, INDEX),
-            set(KEY_END, inputs::KEY),
-            add(KEY_END, KEY_END, KEY_WORDS),
             set(BASE, layout::FIRST_SLOT),
             copy(PLACE, END),
         ],

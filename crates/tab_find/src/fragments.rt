@@ -4,7 +4,7 @@ ghost use Rattle.mc_model.specs.Server.{IsValid};
 ghost use Rattle.sei_stmt.specs.Programs.{flatten};
 ghost use Rattle.tab_find.specs.Parts.{part_program};
 
-use crate::registers::KEY_END;
+use crate::registers::LIMIT;
 use crate::{finding, inputs, storing};
 use mc_model::Geometry;
 use sei_code::Memory;
@@ -35,7 +35,7 @@ pub fn fragment(alloc: Global, g: &Geometry, which: Part) -> Result<Fragment, Me
         Part::Moment => finding::moment(alloc, g)?,
         Part::Find => finding::find(alloc)?,
         Part::Free => finding::free(alloc)?,
-        Part::CopyKey => storing::copy_run(alloc, KEY_END)?,
+        Part::CopyKey => storing::copy_run(alloc, LIMIT)?,
         Part::CopyValue => storing::store_value(alloc, inputs::BLOCK)?,
     };
     Fragment::of(alloc, &program)

@@ -14,12 +14,13 @@ ghost use Rattle.tab_find.specs.Copies.{CanCopy, Copied, CanStoreIn, HasStored, 
 ghost use Rattle.tab_find.specs.FindPrograms.{moment_program, find_program, free_program};
 ghost use Rattle.tab_find.specs.Fit.{FitIsAnswer};
 ghost use Rattle.tab_find.specs.Found.{Arrived, Sought, Offered};
-ghost use Rattle.tab_find.specs.Registers.{r_one, r_address, r_index, r_key_end};
+ghost use Rattle.tab_find.specs.Registers.{r_zero, r_one, r_address, r_index, r_limit};
 ghost use Rattle.tab_find.specs.StorePrograms.{copy_run, store_value};
 
-/// The moment's program leaves words that stand for the bucket as it is when the call arrives, and sets the constants.
+/// The moment's program leaves words that stand for the bucket as it is when the call arrives, and sets the constants. `r_zero`
+/// is 0 before it, as each register is when a run begins.
 pub fn moment_stands()
-    ensures { (g : Geometry) (e : Given) (s : RunState) (b : Bucket) (bound most : ℕ) → StandsFor g s.words b → s.stage ≡ parsed → s.floor ≡ 0 →
+    ensures { (g : Geometry) (e : Given) (s : RunState) (b : Bucket) (bound most : ℕ) → StandsFor g s.words b → s.stage ≡ parsed → s.regs r_zero ≡ 0 → s.floor ≡ 0 →
         s.stores < most → most ≤ e.log_room → s.steps + 20 ≤ bound → Ends e (moment_program g) s (Arrived g e.now b bound most) }
 {}
 
@@ -38,8 +39,8 @@ pub fn free_ends()
 /// The copy of the key's words writes them from the address on, and no other word.
 pub fn key_is_copied()
     ensures { (e : Given) (index : ℕ) (vs ws : List ℕ) (a bound most : ℕ) (s : RunState) →
-        CanCopy e.input index vs ws a s.words s.stage s.floor (s.regs r_one) (s.regs r_address) (s.regs r_index) (s.regs r_key_end) → most ≤ e.log_room →
-        s.stores + length vs ≤ most → s.steps + 5 * length vs ≤ bound → Ends e (copy_run r_key_end) s (Copied vs ws a bound most) }
+        CanCopy e.input index vs ws a s.words s.stage s.floor (s.regs r_one) (s.regs r_address) (s.regs r_index) (s.regs r_limit) → most ≤ e.log_room →
+        s.stores + length vs ≤ most → s.steps + 5 * length vs ≤ bound → Ends e (copy_run r_limit) s (Copied vs ws a bound most) }
 {}
 
 /// The copy of a value gives the slot that value; its fields stay, and the fields of all other slots and the values of the taken ones.

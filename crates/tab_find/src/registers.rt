@@ -27,9 +27,6 @@ pub const HASH: u8 = 7;
 /// The number of words of the call's key.
 pub const KEY_WORDS: u8 = 8;
 
-/// The index after the last word of the call's key, among the input words.
-pub const KEY_END: u8 = 9;
-
 /// The address at which the slot begins that was found or given, or the address after the last slot if there is none.
 pub const PLACE: u8 = 10;
 

@@ -102,7 +102,8 @@ fn new_head(alloc: Global) -> Result<Program, Memory>
 fn new_fields(alloc: Global) -> Result<Program, Memory>
     ensures { IfOk result (λ p. prog_of p ≡ programs.new_fields) }
 {
-    let key = copy_run(alloc, KEY_END)?;
+    let limit = Program::block(alloc, &[add(LIMIT, INDEX, KEY_WORDS)])?;
+    let key = limit.then(alloc, copy_run(alloc, LIMIT)?)?;
     new_head(alloc)?.then(alloc, key)
 }
 

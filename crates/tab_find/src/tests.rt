@@ -13,8 +13,8 @@ const SMALLEST: Geometry = Geometry {
 #[test]
 fn each_part_is_made(rt: HostRuntime) -> Result<(), Fail> {
     let lengths = [
-        (Part::Moment, 12),
-        (Part::Find, 38),
+        (Part::Moment, 11),
+        (Part::Find, 37),
         (Part::Free, 6),
         (Part::CopyKey, 5),
         (Part::CopyValue, 10),
@@ -46,7 +46,7 @@ fn each_program_that_stores_is_made(rt: HostRuntime) -> Result<(), Fail> {
     assert_eq!(rt; count(rt, &load_call(rt.alloc())?)?, 6);
     assert_eq!(rt; count(rt, &expiry(rt.alloc())?)?, 15);
     assert_eq!(rt; count(rt, &draw_item(rt.alloc(), inputs::BLOCK)?)?, 22);
-    assert_eq!(rt; count(rt, &make_item(rt.alloc(), inputs::BLOCK)?)?, 34);
+    assert_eq!(rt; count(rt, &make_item(rt.alloc(), inputs::BLOCK)?)?, 35);
     assert_eq!(rt; count(rt, &remove_item(rt.alloc())?)?, 1);
     assert_eq!(rt; count(rt, &keep_item(rt.alloc()))?, 0);
     Ok(())

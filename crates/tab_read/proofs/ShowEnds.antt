@@ -18,7 +18,7 @@ use Rattle.tab_find.specs.Answers.{HasConstants}
 use Rattle.tab_find.specs.Calls.{IsCall, mark}
 use Rattle.tab_find.specs.Found.{IsPresent, HasKeyLoaded}
 use Rattle.tab_find.specs.Inputs.{last_index}
-use Rattle.tab_find.specs.Registers.{r_zero, r_one, r_key_length, r_hash, r_key_words, r_key_end, r_place, r_address, r_flags, r_unique, r_value_length, r_last, r_limit}
+use Rattle.tab_find.specs.Registers.{r_zero, r_one, r_key_length, r_hash, r_key_words, r_place, r_address, r_flags, r_unique, r_value_length, r_last, r_limit}
 use Rattle.tab_find.specs.ShowPrograms.{Out, read_run, load_item, read_value}
 use Rattle.tab_find.proofs.PublicAnswers.{item_words, end_words, constants_framed, input_word}
 use Rattle.tab_find.proofs.PublicStoring.{value_registers}
@@ -93,7 +93,7 @@ module _ (g : Geometry) (e : Given) (ws : List ℕ) (b : Bucket) (key : List ℕ
       seq e item_loader load_item (Seq show_fields (Seq (read_run Out) (read_value Out))) s (ItemLoaded g e ws b key x valid stands (s.steps + 10)) (Made (item_words key x) bound most) refl
       (load_item_ends g e ws b key x valid stands s (s.steps + 10) p some loaded constants same (omega arith))
       (λ t f d. fields_shown t (s.steps + 10) bound most (subst (IsPresent g ws b key x) (sym (f.regs r_place refl)) p)
-      (record { key_length = f.regs r_key_length refl ∙ loaded.key_length; hash = f.regs r_hash refl ∙ loaded.hash; key_words = f.regs r_key_words refl ∙ loaded.key_words; key_end = f.regs r_key_end refl ∙ loaded.key_end })
+      (record { key_length = f.regs r_key_length refl ∙ loaded.key_length; hash = f.regs r_hash refl ∙ loaded.hash; key_words = f.regs r_key_words refl ∙ loaded.key_words })
       (constants_framed item_loader g b.moment s t (record { none = refl; moment = refl; one = refl; to_expiry = refl; wide = refl; ends = refl }) f constants) (f.words refl ∙ same) d
       (record { stage = ap is_open (f.stage refl) ∙ m.stage; made = f.out refl ∙ m.made; few = omega (arith, f.emitted refl, m.few); fits = m.fits }) (omega (arith, d.steps, steps)))
 

@@ -11,7 +11,7 @@ const SMALLEST: Geometry = Geometry {
 
 #[test]
 fn each_part_is_made(rt: HostRuntime) -> Result<(), Fail> {
-    let lengths = [(Part::Get, 88), (Part::Delete, 51), (Part::Fixed, 6)];
+    let lengths = [(Part::Get, 87), (Part::Delete, 50), (Part::Fixed, 6)];
     for (part, length) in lengths {
         let made = fragment(rt.alloc(), &SMALLEST, part)?;
         assert_eq!(rt; made.stmts.len(), length);

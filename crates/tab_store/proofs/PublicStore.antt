@@ -25,7 +25,7 @@ use Rattle.tab_find.specs.Answers.{CanAnswer, HasConstants, HasBegun, outcome_at
 use Rattle.tab_find.specs.Found.{IsPresent, IsGiven, KeyFound, HasKeyLoaded, Sought, Offered}
 use Rattle.tab_find.specs.Inputs.{block_index}
 use Rattle.tab_find.specs.FindPrograms.{find_program, free_program}
-use Rattle.tab_find.specs.Registers.{r_place, r_end, r_key_length, r_hash, r_key_words, r_key_end, r_flags, r_expiry, r_value_length, r_value_words, r_noreply}
+use Rattle.tab_find.specs.Registers.{r_place, r_end, r_key_length, r_hash, r_key_words, r_flags, r_expiry, r_value_length, r_value_words, r_noreply}
 use Rattle.tab_find.specs.ShowPrograms.{answer_text}
 use Rattle.tab_find.specs.StorePrograms.{load_call, expiry_program, keep_program, draw_program, make_program}
 use Rattle.tab_find.proofs.PublicAnswers.{outcome_row, MayReply, begun_replies, text_replies, answered, KeepsConstants, KeepsBegun, constants_framed, begun_framed, by_key_ends}
@@ -56,7 +56,6 @@ pub record KeepsKey (u : Touch) : Type 0 where
   key_length : u.regs r_key_length ≡ false
   hash : u.regs r_hash ≡ false
   key_words : u.regs r_key_words ≡ false
-  key_end : u.regs r_key_end ≡ false
 
 key_framed : (u : Touch) (key : List ℕ) (s t : RunState) → KeepsKey u → Framed u s t → HasKeyLoaded key s → HasKeyLoaded key t
 key_framed u key s t k f h =
@@ -64,7 +63,6 @@ key_framed u key s t k f h =
       key_length = f.regs r_key_length k.key_length ∙ h.key_length;
       hash = f.regs r_hash k.hash ∙ h.hash;
       key_words = f.regs r_key_words k.key_words ∙ h.key_words;
-      key_end = f.regs r_key_end k.key_end ∙ h.key_end;
     }
 
 -- the registers of the item that is to be stored
@@ -90,16 +88,16 @@ item_framed u input index w g x s t k f h =
     }
 
 load_keeps_key : KeepsKey loader
-load_keeps_key = record { key_length = refl; hash = refl; key_words = refl; key_end = refl }
+load_keeps_key = record { key_length = refl; hash = refl; key_words = refl }
 
 date_keeps_key : KeepsKey dater
-date_keeps_key = record { key_length = refl; hash = refl; key_words = refl; key_end = refl }
+date_keeps_key = record { key_length = refl; hash = refl; key_words = refl }
 
 say_keeps_key : KeepsKey sayer
-say_keeps_key = record { key_length = refl; hash = refl; key_words = refl; key_end = refl }
+say_keeps_key = record { key_length = refl; hash = refl; key_words = refl }
 
 free_keeps_key : KeepsKey freer
-free_keeps_key = record { key_length = refl; hash = refl; key_words = refl; key_end = refl }
+free_keeps_key = record { key_length = refl; hash = refl; key_words = refl }
 
 say_keeps_item : KeepsItem sayer
 say_keeps_item = record { flags = refl; expiry = refl; value_length = refl; value_words = refl }

@@ -188,7 +188,7 @@ fn each_command_costs_few_statements(rt: HostRuntime) -> Result<(), Fail> {
             b"version\r\n",
         ],
     )?;
-    let wanted = [32, 89, 92, 95, 53, 50, 63, 42, 45, 29];
+    let wanted = [31, 87, 90, 93, 50, 47, 61, 39, 42, 28];
     for (count, wanted) in made.iter().zip(wanted.iter()) {
         assert_eq!(rt; *count, Some(*wanted));
     }
@@ -200,7 +200,7 @@ fn each_command_costs_few_statements(rt: HostRuntime) -> Result<(), Fail> {
 fn the_time_costs_two_statements(rt: HostRuntime) -> Result<(), Fail> {
     let texts: [&[u8]; 3] = [b"version\r\n", b"set a 0 0 1\r\nx\r\n", b"get a\r\n"];
     let made = statements(rt, 1, 1_000, &texts)?;
-    let wanted = [31, 91, 97];
+    let wanted = [30, 89, 95];
     for (count, wanted) in made.iter().zip(wanted.iter()) {
         assert_eq!(rt; *count, Some(*wanted));
     }
@@ -226,7 +226,7 @@ fn a_word_of_a_value_costs_five_statements(rt: HostRuntime) -> Result<(), Fail> 
             b"get a\r\n",
         ],
     )?;
-    let wanted = [32, 84, 90, 92, 95, 97, 100, 102, 105];
+    let wanted = [31, 82, 88, 90, 93, 95, 98, 100, 103];
     for (count, wanted) in made.iter().zip(wanted.iter()) {
         assert_eq!(rt; *count, Some(*wanted));
     }
@@ -246,8 +246,8 @@ fn a_slot_that_is_walked_costs_few_statements(rt: HostRuntime) -> Result<(), Fai
     ];
     let two = statements(rt, 2, 0, &texts)?;
     let three = statements(rt, 3, 0, &texts)?;
-    let of_two = [32, 49, 88, 57, 99, 65];
-    let of_three = [32, 53, 92, 61, 103, 69];
+    let of_two = [31, 46, 86, 54, 97, 62];
+    let of_three = [31, 50, 90, 58, 101, 66];
     for (count, wanted) in two.iter().zip(of_two.iter()) {
         assert_eq!(rt; *count, Some(*wanted));
     }

@@ -387,7 +387,7 @@ end aborted
 === no bucket is lent where a slot is asked for
 geometry 1 1 3
 open 0 plain
-fault 0 0 take at 0 jump first 266
+fault 0 0 take at 0 jump first 262
 say 0 set a 0 0 1\r\nx\r\n
 drain
 --- 3
