@@ -19,10 +19,10 @@ use Rattle.mc_text.specs.declared.commands.Form.TheVariants as forms
 use Rattle.mc_model.specs.Texts.{okay_text, error_text, version_text, bad_line_format_text, bad_data_chunk_text, line_too_long_text, object_too_large_text, text_count}
 use Rattle.mc_text.specs.Words.{words, without_cr, arg}
 use Rattle.mc_text.specs.Bounds.{longest_block}
-use Rattle.mc_text.specs.Fields.{is_key, exptime_of, has_words, has_zero_words, is_zero_or_noreply, asks_noreply}
+use Rattle.mc_text.specs.Fields.{is_key, exptime_of, has_words}
 use Rattle.mc_text.specs.Commands.{command_of, has_keys, IsReadVerb}
 use Rattle.mc_text.specs.Meaning.{Meaning, Quit, One, Each, Everywhere, key_calls, calls_of, is_closing, ends_connection}
-use Rattle.mc_text.specs.Lines.{LineMeaning, Ends, Wants, fixed, having, field, some_words, block_for, storage, retrieval, deletion, version, verbosity, quit, by_form, by_command, words_say}
+use Rattle.mc_text.specs.Lines.{LineMeaning, Ends, Wants, fixed, having, field, some_words, block_for, has_zero_words, is_zero_or_noreply, asks_noreply, storage, retrieval, deletion, version, verbosity, quit, by_form, by_command, words_say}
 use Rattle.mc_text.specs.Spells.{Spells, TooLong, OneLine, WithBlock, line_says, settled, finished}
 use Rattle.mc_text.specs.Stream.{Takes, requests, rest_of, up_to_end, own_calls}
 use Rattle.mc_text.specs.Fits.{HasKey, HasReadFields, IsFit}

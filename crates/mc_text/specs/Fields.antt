@@ -29,18 +29,3 @@ is_noreply w = bytes_eq w (codes "noreply")
 -- n words, or one more that is `noreply`
 abbrev pub has_words : List (List ℕ) → ℕ → Bool
 has_words ws n = (length ws == n) || ((length ws == n + 1) && is_noreply (arg ws n))
-
-abbrev pub is_zero : List ℕ → Bool
-is_zero w = bytes_eq w (codes "0")
-
--- n words, and up to two more, the second of which is `noreply`
-abbrev pub has_zero_words : List (List ℕ) → ℕ → Bool
-has_zero_words ws n = (length ws == n) || (length ws == n + 1) || ((length ws == n + 2) && is_noreply (arg ws (n + 1)))
-
--- no word after n, or `0` first, or `noreply` alone
-abbrev pub is_zero_or_noreply : List (List ℕ) → ℕ → Bool
-is_zero_or_noreply ws n = (length ws == n) || is_zero (arg ws n) || ((length ws == n + 1) && is_noreply (arg ws n))
-
--- one of the two words after n is `noreply`
-abbrev pub asks_noreply : List (List ℕ) → ℕ → Bool
-asks_noreply ws n = is_noreply (arg ws n) || is_noreply (arg ws (n + 1))

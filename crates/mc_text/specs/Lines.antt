@@ -1,6 +1,7 @@
 -- What the words of a line ask for. Nested tests are the refusals in their order.
-use Rattle.std.specs.Prelude.{ℕ, ◌-◌, ◌^◌, Bool, true, false, ◌==◌, nat_le, nat_lt, List, Option, Some, None, length, take, drop, if◌then◌else◌}
+use Rattle.std.specs.Prelude.{ℕ, ◌+◌, ◌-◌, ◌^◌, Bool, true, false, ◌&&◌, ◌||◌, ◌==◌, nat_le, nat_lt, List, Option, Some, None, length, take, drop, codes, if◌then◌else◌}
 use Rattle.std.specs.List.{list_all}
+use Rattle.std.specs.Str.{bytes_eq}
 use Rattle.mc_model.specs.declared.call.Verb.{Verb}
 use Rattle.mc_model.specs.declared.call.Verb.TheVariants.{Fixed}
 use Rattle.mc_model.specs.Call.{Call, blank}
@@ -11,7 +12,7 @@ use Rattle.mc_text.specs.Words.{arg}
 use Rattle.mc_text.specs.declared.commands.Command.{Command}
 use Rattle.mc_text.specs.declared.commands.Form.{Form}
 use Rattle.mc_text.specs.declared.commands.Form.TheVariants as forms
-use Rattle.mc_text.specs.Fields.{is_key, exptime_of, has_words, has_zero_words, is_zero_or_noreply, asks_noreply}
+use Rattle.mc_text.specs.Fields.{is_key, exptime_of, is_noreply, has_words}
 use Rattle.mc_text.specs.Commands.{command_of}
 use Rattle.mc_text.specs.Meaning.{Meaning, Quit, One, Each}
 
@@ -58,6 +59,21 @@ unfoldable pub retrieval : Verb → List (List ℕ) → LineMeaning
 retrieval verb ws =
     having (nat_lt 1 (length ws)) error_text (having (list_all is_key (drop 1 ws)) bad_line_format_text (
     Ends (Each (blank verb) (some_words ws 1 (length ws - 1)))))
+
+abbrev pub is_zero : List ℕ → Bool
+is_zero w = bytes_eq w (codes "0")
+
+-- n words, and up to two more, the second of which is `noreply`
+abbrev pub has_zero_words : List (List ℕ) → ℕ → Bool
+has_zero_words ws n = (length ws == n) || (length ws == n + 1) || ((length ws == n + 2) && is_noreply (arg ws (n + 1)))
+
+-- no word after n, or `0` first, or `noreply` alone
+abbrev pub is_zero_or_noreply : List (List ℕ) → ℕ → Bool
+is_zero_or_noreply ws n = (length ws == n) || is_zero (arg ws n) || ((length ws == n + 1) && is_noreply (arg ws n))
+
+-- one of the two words after n is `noreply`
+abbrev pub asks_noreply : List (List ℕ) → ℕ → Bool
+asks_noreply ws n = is_noreply (arg ws n) || is_noreply (arg ws (n + 1))
 
 -- <command> <key> [0] [noreply]
 unfoldable pub deletion : Verb → List (List ℕ) → LineMeaning

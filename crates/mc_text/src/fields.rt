@@ -1,7 +1,7 @@
 ghost use Rattle.std.specs.Prelude.{◌≡◌, ◌<◌, ◌≤◌, length, drop};
 ghost use Rattle.std.specs.List.{list_all};
 ghost use Rattle.mc_text.specs.Words.{words, arg};
-ghost use Rattle.mc_text.specs.Fields.{is_key_byte, is_key, exptime_of, is_noreply, has_words, has_zero_words, is_zero_or_noreply, asks_noreply};
+ghost use Rattle.mc_text.specs.Fields.{is_key_byte, is_key, exptime_of, is_noreply, has_words};
 
 use crate::commands::is;
 use crate::limits::LONGEST_KEY;
@@ -58,7 +58,8 @@ pub fn exptime_of(word: &[u8]) -> Option<(bool, u64)>
     }
 }
 
-fn is_noreply(word: &[u8]) -> bool
+/// Whether a word asks for no reply.
+pub fn is_noreply(word: &[u8]) -> bool
     ensures { result ≡ is_noreply word.now }
 {
     is(word, b"noreply")
@@ -71,33 +72,6 @@ pub fn has_words(line: &[u8], n: usize) -> bool
 {
     let all = count(line);
     all == n || (all == n + 1 && is_noreply(word_bytes(line, n)))
-}
-
-/// Whether a line has `n` words and up to two more, the second of which is `noreply`.
-pub fn has_zero_words(line: &[u8], n: usize) -> bool
-    requires { n < 16 }
-    ensures { result ≡ has_zero_words (words line.now) n }
-{
-    let all = count(line);
-    all == n || all == n + 1 || (all == n + 2 && is_noreply(word_bytes(line, n + 1)))
-}
-
-/// Whether a line has no word after `n`, or `0` first, or `noreply` alone.
-pub fn is_zero_or_noreply(line: &[u8], n: usize) -> bool
-    requires { n < 16 }
-    ensures { result ≡ is_zero_or_noreply (words line.now) n }
-{
-    let all = count(line);
-    let word = word_bytes(line, n);
-    all == n || is(word, b"0") || (all == n + 1 && is_noreply(word))
-}
-
-/// Whether one of the two words after `n` is `noreply`.
-pub fn asks_noreply(line: &[u8], n: usize) -> bool
-    requires { n < 16 }
-    ensures { result ≡ asks_noreply (words line.now) n }
-{
-    is_noreply(word_bytes(line, n)) || is_noreply(word_bytes(line, n + 1))
 }
 
 /// Whether all words at a place or behind it are keys.

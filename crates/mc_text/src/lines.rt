@@ -5,15 +5,12 @@ ghost use Rattle.mc_model.specs.Views.{call_with};
 ghost use Rattle.mc_text.specs.Words.{words};
 ghost use Rattle.mc_model.specs.Texts.{text_count};
 ghost use Rattle.mc_text.specs.Meaning.{One};
-ghost use Rattle.mc_text.specs.Lines.{Ends, fixed, refused, block_for, some_words, storage, retrieval, deletion, version, verbosity, quit, words_say};
+ghost use Rattle.mc_text.specs.Lines.{Ends, fixed, refused, block_for, some_words, has_zero_words, is_zero_or_noreply, asks_noreply, storage, retrieval, deletion, version, verbosity, quit, words_say};
 ghost use Rattle.mc_text.specs.Fits.{HasKey};
 ghost use Rattle.mc_text.specs.Parsed.{line_meaning_of, IsParsedOf};
 
-use crate::commands::{Form, command_of};
-use crate::fields::{
-    all_keys, asks_noreply, exptime_of, has_words, has_zero_words, is_key, is_zero_or_noreply,
-    word_bytes,
-};
+use crate::commands::{Form, command_of, is};
+use crate::fields::{all_keys, exptime_of, has_words, is_key, is_noreply, word_bytes};
 use crate::limits::LONGEST_BLOCK;
 use crate::parsed::{Kind, ParsedLine, Template, blank};
 use crate::words::{behind_words, count};
@@ -124,6 +121,33 @@ fn retrieval(line: &[u8], verb: Verb) -> ParsedLine
         count: all - 1,
         closing: false,
     })
+}
+
+/// Whether a line has `n` words and up to two more, the second of which is `noreply`.
+fn has_zero_words(line: &[u8], n: usize) -> bool
+    requires { n < 16 }
+    ensures { result ≡ has_zero_words (words line.now) n }
+{
+    let all = count(line);
+    all == n || all == n + 1 || (all == n + 2 && is_noreply(word_bytes(line, n + 1)))
+}
+
+/// Whether a line has no word after `n`, or `0` first, or `noreply` alone.
+fn is_zero_or_noreply(line: &[u8], n: usize) -> bool
+    requires { n < 16 }
+    ensures { result ≡ is_zero_or_noreply (words line.now) n }
+{
+    let all = count(line);
+    let word = word_bytes(line, n);
+    all == n || is(word, b"0") || (all == n + 1 && is_noreply(word))
+}
+
+/// Whether one of the two words after `n` is `noreply`.
+fn asks_noreply(line: &[u8], n: usize) -> bool
+    requires { n < 16 }
+    ensures { result ≡ asks_noreply (words line.now) n }
+{
+    is_noreply(word_bytes(line, n)) || is_noreply(word_bytes(line, n + 1))
 }
 
 #[tactic(auto, unfolding(crate::specs::Lines::deletion))]

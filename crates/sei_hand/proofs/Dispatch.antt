@@ -12,37 +12,37 @@ use Rattle.sei_stmt.specs.Order.{timed, is_parsed}
 use Rattle.sei_stmt.specs.Runs.{Given, RunState, tick}
 use Rattle.sei_stmt.specs.Programs.{Prog, Seq, Ends, HasWord}
 use Rattle.sei_stmt.proofs.PublicPrograms.{Chosen, halves_ends}
-use Rattle.tab_find.specs.Answers.{CanAnswer, HasConstants, HasBegun, Answered}
+use Rattle.tab_find.specs.Answers.{CanAnswer, HasConstants, HasBegun, Answered, AnswersCalls}
 use Rattle.tab_find.specs.Inputs.{verb_index, noreply_index}
 use Rattle.tab_find.specs.Registers.{r_zero, r_moment, r_one, r_expiry_offset, r_width, r_end, r_verb, r_noreply, r_number}
 use Rattle.tab_find.proofs.PublicAnswers.{input_word}
-use Rattle.tab_store.proofs.PublicStore.{set_answers}
-use Rattle.tab_read.proofs.PublicRead.{get_answers, delete_answers, fixed_answers}
+use Rattle.tab_store.specs.declared.commands.Part.TheVariants as store_part
+use Rattle.tab_store.proofs.PublicStore as storing
+use Rattle.tab_read.specs.declared.commands.Part.TheVariants as read_part
+use Rattle.tab_read.proofs.PublicRead as reading
 use Rattle.sei_hand.specs.Commands.{rows, program_in, programs, load_marks, dispatch}
 use Rattle.sei_hand.specs.Served.{IsOffered}
 
--- from where a command begins, the program answers each call of this command
-abbrev AnswersCalls : Verb → Prog → Type 0
-AnswersCalls v p =
-    (g : Geometry) (e : Given) (ws : List ℕ) (b : Bucket) (c : Call) (w : ℕ) → CanAnswer g e ws b c w → c.verb ≡ v → (HasKey v → 1 ≤ length c.key) → (s : RunState) (bound : ℕ) → HasBegun g ws b c s →
-    s.steps + 310 * g.slots + 20 * w + 600 ≤ bound → bound ≤ e.budget → Ends e p s (Answered g b c w bound)
+-- the calls of a command, at a key if it has one
+abbrev OfCommand : Verb → Call → Type 0
+OfCommand v c = (c.verb ≡ v) × (HasKey v → 1 ≤ length c.key)
 
 -- the command's program is the one of its number, and answers
 pub record IsServed (v : Verb) : Type 0 where
   pub few : verb_number v < 2 ^ 4
   pub there : slice_get programs (verb_number v) ≡ Some (program_in rows (verb_number v))
-  pub answers : AnswersCalls v (program_in rows (verb_number v))
+  pub answers : AnswersCalls (OfCommand v) (program_in rows (verb_number v))
 
 -- one row for each command that requests may ask for, in their order
 pub served : (v : Verb) → IsReadVerb v → IsServed v
 served v read =
     read_verb_is IsServed v (
-      record { few = omega arith; there = refl; answers = λ g e ws b c w can is some. set_answers g e ws b c w can is (some tt) },
+      record { few = omega arith; there = refl; answers = λ g e ws b c w can of. storing.parts_answer store_part.Set g e ws b c w can (of.0, of.1 tt) },
       (
-        record { few = omega arith; there = refl; answers = λ g e ws b c w can is some. get_answers g e ws b c w can is (some tt) },
+        record { few = omega arith; there = refl; answers = λ g e ws b c w can of. reading.parts_answer read_part.Get g e ws b c w can (of.0, of.1 tt) },
         (
-          record { few = omega arith; there = refl; answers = λ g e ws b c w can is some. delete_answers g e ws b c w can is (some tt) },
-          (record { few = omega arith; there = refl; answers = λ g e ws b c w can is some. fixed_answers g e ws b c w can is }, tt),
+          record { few = omega arith; there = refl; answers = λ g e ws b c w can of. reading.parts_answer read_part.Delete g e ws b c w can (of.0, of.1 tt) },
+          (record { few = omega arith; there = refl; answers = λ g e ws b c w can of. reading.parts_answer read_part.Fixed g e ws b c w can of.0 }, tt),
         ),
       ),
     ) read
@@ -95,7 +95,7 @@ module _ (g : Geometry) (e : Given) (ws : List ℕ) (b : Bucket) (c : Call) (w :
       subst (λ n. Ends e dispatch s (Answered g b c w n)) same
       (halves_ends e r_verb r_number (omega arith) 4 0 (verb_number c.verb) programs (program_in rows (verb_number c.verb)) s (λ m. Answered g b c w (low + m)) row.few row.there (omega (arith, verb))
       (later low) (later_tick low)
-      (λ u h. row.answers g e ws b c w can refl offered.key u (low + 0) (begun_chosen 8 s u h begun) (omega (arith, h.steps, steps)) (omega (arith, within))))
+      (λ u h. row.answers g e ws b c w can (refl, offered.key) u (low + 0) (begun_chosen 8 s u h begun) (omega (arith, h.steps, steps)) (omega (arith, within))))
 
   -- with the marks of the call
   pub marked_ends : (s : RunState) (bound : ℕ) → Timed g ws b s → s.steps + 310 * g.slots + 20 * w + 620 ≤ bound → bound ≤ e.budget → Ends e (Seq load_marks dispatch) s (Answered g b c w bound)

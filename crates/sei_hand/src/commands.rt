@@ -38,10 +38,10 @@ fn program(alloc: Global, verb: Verb) -> Result<Program, Memory>
     ensures { IfOk result (λ p. prog_of p ≡ commands.program_in commands.rows (verb_number verb)) }
 {
     match verb {
-        Verb::Set => tab_store::set(alloc),
-        Verb::Get => tab_read::get(alloc),
-        Verb::Delete => tab_read::delete(alloc),
-        Verb::Fixed => tab_read::fixed(alloc),
+        Verb::Set => tab_store::program(alloc, tab_store::Part::Set),
+        Verb::Get => tab_read::program(alloc, tab_read::Part::Get),
+        Verb::Delete => tab_read::program(alloc, tab_read::Part::Delete),
+        Verb::Fixed => tab_read::program(alloc, tab_read::Part::Fixed),
         _ => Ok(Program::empty(alloc)),
     }
 }

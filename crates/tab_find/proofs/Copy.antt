@@ -1,5 +1,5 @@
 -- What runs of stores and the copy of a run of input words do.
-use Rattle.std.proofs.Common.{◌≡◌, ◌≢◌, ℕ, zero, suc, ◌+◌, ◌-◌, ◌*◌, ◌^◌, ◌<◌, ◌≤◌, ◌⊎◌, inl, inr, List, [], ◌∷◌, length, refl, sym, ap, ◌∙◌, subst, arith, below_more, get_or-set_other, get_or-set_same}
+use Rattle.std.proofs.Common.{◌≡◌, ◌≢◌, ℕ, zero, suc, ◌+◌, ◌-◌, ◌*◌, ◌<◌, ◌≤◌, ◌⊎◌, inl, inr, List, [], ◌∷◌, length, refl, sym, ap, ◌∙◌, subst, arith, below_more, get_or-set_other, get_or-set_same}
 use Rattle.std.specs.Prelude.{slice_set, slice_index, true, false, nat_eq, ◌||◌}
 use Rattle.std.proofs.Math.ListN.{length-set}
 use Rattle.sei_words.specs.Stored.{StoredAt}

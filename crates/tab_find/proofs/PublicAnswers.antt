@@ -1,5 +1,5 @@
 -- What commands answer: which output words render to which reply, and what a reply and a change come to.
-use Rattle.std.proofs.Common.{◌≡◌, ℕ, zero, suc, ◌+◌, ◌*◌, ◌<◌, ◌≤◌, ◌^◌, Bool, true, false, inl, inr, List, [], ◌∷◌, ◌++◌, length, Option, Some, None, refl, sym, ap, ◌∙◌, subst, arith, length-append, append_assoc, append-nil}
+use Rattle.std.proofs.Common.{◌≡◌, ◌≢◌, ℕ, zero, suc, ◌+◌, ◌*◌, ◌<◌, ◌≤◌, ◌^◌, Bool, true, false, inl, inr, List, [], ◌∷◌, ◌++◌, length, Option, Some, None, refl, sym, ap, ◌∙◌, subst, arith, length-append, append_assoc, append-nil}
 use Rattle.std.specs.Prelude.{nat_le, slice_index, if◌then◌else◌, slice_index_or, codes}
 use Rattle.std.specs.List.{list_all}
 use Rattle.std.specs.Option.{option_map}
@@ -36,6 +36,7 @@ use Rattle.tab_find.specs.Found.{IsPresent, KeyFound, Changed}
 use Rattle.tab_find.specs.Registers.{r_zero, r_moment, r_one, r_expiry_offset, r_width, r_end, r_place, r_noreply}
 use Rattle.tab_find.specs.ShowPrograms.{say, if_wanted, answer_text}
 use Rattle.tab_find.proofs.MachineLaws.{word_is}
+use Rattle.tab_find.proofs.PublicFinding.{finding}
 use Rattle.tab_find.proofs.PublicShowing.{Made, say_ends, if_wanted_ends}
 
 -- the outcome of a call, by its command and what its key has
@@ -242,6 +243,17 @@ begun_framed u g ws b c s t k f h =
       constants = constants_framed u g b.moment s t k.constants f h.constants;
       noreply = f.regs r_noreply k.noreply ∙ h.noreply;
     }
+
+-- the find does
+pub find_keeps : KeepsBegun finding
+find_keeps = record { words = refl; out = refl; stage = refl; constants = record { none = refl; moment = refl; one = refl; to_expiry = refl; wide = refl; ends = refl }; noreply = refl }
+
+-- one more statement, which is the jump over the other side
+pub answered_tick : (g : Geometry) (b : Bucket) (c : Call) (w low bound : ℕ) (t : RunState) → low + 1 ≤ bound → Answered g b c w low t → Answered g b c w bound (tick t)
+answered_tick g b c w low bound t le a = record { steps = omega (arith, a.steps, le); stage = a.stage; stands = a.stands; reply = a.reply }
+
+pub some_key : (key : List ℕ) → 1 ≤ length key → key ≢ []
+some_key key long e = omega (arith, long, ap length e)
 
 -- a word of the call that is no word of its key or block
 pub input_word : (input : List ℕ) (c : Call) (i v : ℕ) → IsCall input c → i < key_index → slice_index input i ≡ v → HasWord input i v

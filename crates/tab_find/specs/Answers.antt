@@ -1,6 +1,7 @@
 -- Where a command begins, and what it comes to.
 use Rattle.std.specs.Prelude.{◌≡◌, ℕ, ◌+◌, ◌*◌, ◌^◌, ◌<◌, ◌≤◌, All, List, [], length, Some, if◌then◌else◌}
 use Rattle.mc_model.specs.declared.geometry.Geometry.{Geometry}
+use Rattle.mc_model.specs.declared.call.Verb.{Verb}
 use Rattle.mc_model.specs.Answer.{bucket_after, outcome_in}
 use Rattle.mc_model.specs.Bucket.{Item, Bucket, lookup, purged}
 use Rattle.mc_model.specs.Call.{Call}
@@ -13,7 +14,7 @@ use Rattle.sei_words.specs.Layout.{width, word_count, expiry_offset}
 use Rattle.sei_words.specs.Stands.{StandsFor}
 use Rattle.sei_stmt.specs.Order.{timed}
 use Rattle.sei_stmt.specs.Runs.{Given, RunState}
-use Rattle.sei_stmt.specs.Programs.{MayRender}
+use Rattle.sei_stmt.specs.Programs.{Prog, Ends, MayRender}
 use Rattle.tab_find.specs.Calls.{IsCall, mark}
 use Rattle.tab_find.specs.Fit.{FitIsAnswer}
 use Rattle.tab_find.specs.Registers.{r_zero, r_moment, r_one, r_expiry_offset, r_width, r_end, r_noreply}
@@ -106,3 +107,15 @@ pub record Answered (g : Geometry) (b : Bucket) (c : Call) (w bound : ℕ) (t : 
   pub stage : MayRender t.stage
   pub stands : StandsFor g t.words (purged (bucket_after c.key (outcome_at g b c).change b))
   pub reply : Renders g w t.out (reply_at g b c)
+
+-- from where the command begins, the program answers the call
+abbrev pub AnswersCall : Geometry → Given → List ℕ → Bucket → Call → ℕ → Prog → Type 0
+AnswersCall g e ws b c w p = (s : RunState) (bound : ℕ) → HasBegun g ws b c s → s.steps + 310 * g.slots + 20 * w + 600 ≤ bound → bound ≤ e.budget → Ends e p s (Answered g b c w bound)
+
+-- the program answers each of these calls
+abbrev pub AnswersCalls : (Call → Type 0) → Prog → Type 0
+AnswersCalls These p = (g : Geometry) (e : Given) (ws : List ℕ) (b : Bucket) (c : Call) (w : ℕ) → CanAnswer g e ws b c w → These c → AnswersCall g e ws b c w p
+
+-- calls of a command at a key
+abbrev pub AtKey : Verb → Call → Type 0
+AtKey v c = (c.verb ≡ v) × (1 ≤ length c.key)

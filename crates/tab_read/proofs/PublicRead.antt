@@ -1,5 +1,5 @@
 -- What the commands that read or remove an item answer, and the fixed texts.
-use Rattle.std.proofs.Common.{◌≡◌, ◌≢◌, ℕ, ◌+◌, ◌*◌, ◌≤◌, List, [], ◌∷◌, ◌++◌, length, Some, None, refl, sym, ap, ◌∙◌, subst, arith}
+use Rattle.std.proofs.Common.{◌≡◌, ℕ, ◌+◌, ◌*◌, ◌≤◌, List, [], ◌∷◌, ◌++◌, length, Some, None, refl, sym, ap, ◌∙◌, subst, arith}
 use Rattle.std.specs.Prelude.{false, true, codes, nat_eq, ◌||◌}
 use Rattle.mc_model.specs.declared.geometry.Geometry.{Geometry}
 use Rattle.mc_model.specs.declared.call.Verb.TheVariants.{Get, Delete, Fixed}
@@ -18,25 +18,21 @@ use Rattle.sei_stmt.specs.Runs.{Given, RunState, tick}
 use Rattle.sei_stmt.specs.Programs.{Prog, Block, Seq, IfLt, Ends}
 use Rattle.sei_stmt.specs.Touch.{Touch}
 use Rattle.sei_stmt.proofs.FrameLaws.{seq, then_so}
-use Rattle.tab_find.specs.Answers.{CanAnswer, HasBegun, Renders, Replied, Answered}
+use Rattle.tab_find.specs.Answers.{CanAnswer, HasBegun, Renders, Replied, Answered, AnswersCall, AnswersCalls, AtKey}
 use Rattle.tab_find.specs.Found.{IsPresent, HasKeyLoaded, Sought}
 use Rattle.tab_find.specs.Inputs.{text_index}
 use Rattle.tab_find.specs.FindPrograms.{find_program}
 use Rattle.tab_find.specs.Registers.{r_zero, r_one, r_place, r_end, r_index, r_number}
 use Rattle.tab_find.specs.ShowPrograms.{if_wanted, answer_text}
 use Rattle.tab_find.specs.StorePrograms.{keep_program, remove_program}
-use Rattle.tab_find.proofs.PublicAnswers.{outcome_row, renders_end, renders_item, renders_text, item_words, end_words, text_words, CanShow, begun_replies, Says, reply_ends, text_replies, answered, only_answered, KeepsBegun, constants_framed, begun_framed, by_key_ends, input_word}
+use Rattle.tab_find.proofs.PublicAnswers.{outcome_row, renders_end, renders_item, renders_text, item_words, end_words, text_words, CanShow, begun_replies, Says, reply_ends, text_replies, answered, only_answered, constants_framed, begun_framed, find_keeps, answered_tick, some_key, by_key_ends, input_word}
 use Rattle.tab_find.proofs.PublicShowing.{Made, sayer}
 use Rattle.tab_find.proofs.PublicFinding.{finding, find_stands, item_numbered}
 use Rattle.tab_find.proofs.PublicStoring.{keep_ends, remove_ends}
-use Rattle.tab_read.specs.Programs.{show_item, show_end, get_present, get_program, delete_program, fixed_program}
+use Rattle.tab_read.specs.declared.commands.Part.{Part}
+use Rattle.tab_read.specs.declared.commands.Part.TheVariants as part
+use Rattle.tab_read.specs.Programs.{show_item, show_end, get_present, get_program, delete_program, fixed_program, part_program, IsCallOf}
 use Rattle.tab_read.proofs.ShowEnds.{shower, show_item_ends, show_end_ends}
-
-find_keeps : KeepsBegun finding
-find_keeps = record { words = refl; out = refl; stage = refl; constants = record { none = refl; moment = refl; one = refl; to_expiry = refl; wide = refl; ends = refl }; noreply = refl }
-
-some_key : (key : List ℕ) → 1 ≤ length key → key ≢ []
-some_key key long e = omega (arith, long, ap length e)
 
 deleted_line : line (codes "DELETED") ≡ text_line deleted_text
 unfolding text_line
@@ -77,10 +73,6 @@ module _ (g : Geometry) (e : Given) (ws : List ℕ) (b : Bucket) (c : Call) (w :
       (λ x there. present (tick t) x (omega (arith, d.steps, steps)) begun d.loaded there)
       (λ gone. absent (tick t) (omega (arith, d.steps, steps)) begun gone))
 
-  -- one more statement, which is the jump over the other side
-  answered_tick : (low bound : ℕ) (t : RunState) → low + 1 ≤ bound → Answered g b c w low t → Answered g b c w bound (tick t)
-  answered_tick low bound t le a = record { steps = omega (arith, a.steps, le); stage = a.stage; stands = a.stands; reply = a.reply }
-
   -- get
 
   can_show : (x : Item) (place : ℕ) → 1 ≤ length c.key → IsPresent g ws b c.key x place → CanShow g w c.key x
@@ -120,8 +112,8 @@ module _ (g : Geometry) (e : Given) (ws : List ℕ) (b : Bucket) (c : Call) (w :
       (show_end_ends e c (tick s) c.last [] bound 2 can.call refl h.constants.none h.constants.one
       (record { stage = ap is_open h.time; made = h.empty; few = omega (arith, h.silent); fits = omega (arith, can.out_room) }) (omega (arith, steps))))
 
-  pub get_answers : c.verb ≡ Get → 1 ≤ length c.key → (s : RunState) (bound : ℕ) → HasBegun g ws b c s → s.steps + 310 * g.slots + 20 * w + 600 ≤ bound → bound ≤ e.budget → Ends e get_program s (Answered g b c w bound)
-  get_answers verb some s bound h steps within =
+  get_answers : AtKey Get c → AnswersCall g e ws b c w get_program
+  get_answers (verb, some) s bound h steps within =
       by_key get_present (if_wanted show_end) s (5 * w + 220) bound some h (omega (arith, steps))
       (λ t x left ht loaded p.
       let low = t.steps + 5 * w + 200 in
@@ -132,13 +124,13 @@ module _ (g : Geometry) (e : Given) (ws : List ℕ) (b : Bucket) (c : Call) (w :
       (λ t left ht gone.
       let low = t.steps + 10 in
       then_so e shower (if_wanted show_end) t (Answered g b c w low) (λ u. Answered g b c w bound (tick u)) refl
-      (λ u f a. answered_tick low bound u (omega (arith, left)) a)
+      (λ u f a. answered_tick g b c w low bound u (omega (arith, left)) a)
       (only_answered g e ws b c w shower (if_wanted show_end) t low refl refl refl can.stands ht.same (ap (λ (o : Outcome). o.change) (outcome_row g b c Get None verb gone)) (ap may_render ht.time) (end_said t low verb gone ht (omega arith))))
 
   -- delete
 
-  pub delete_answers : c.verb ≡ Delete → 1 ≤ length c.key → (s : RunState) (bound : ℕ) → HasBegun g ws b c s → s.steps + 310 * g.slots + 20 * w + 600 ≤ bound → bound ≤ e.budget → Ends e delete_program s (Answered g b c w bound)
-  delete_answers verb some s bound h steps within =
+  delete_answers : AtKey Delete c → AnswersCall g e ws b c w delete_program
+  delete_answers (verb, some) s bound h steps within =
       by_key (Seq (answer_text deleted_text) remove_program) (answer_text not_found_text) s 20 bound some h (omega (arith, steps))
       (λ t x left ht loaded p.
       let low = t.steps + 10 in
@@ -153,13 +145,13 @@ module _ (g : Geometry) (e : Given) (ws : List ℕ) (b : Bucket) (c : Call) (w :
       let low = t.steps + 10 in
       let row = outcome_row g b c Delete None verb gone in
       then_so e sayer (answer_text not_found_text) t (Answered g b c w low) (λ u. Answered g b c w bound (tick u)) refl
-      (λ u f a. answered_tick low bound u (omega (arith, left)) a)
+      (λ u f a. answered_tick g b c w low bound u (omega (arith, left)) a)
       (only_answered g e ws b c w sayer (answer_text not_found_text) t low refl refl refl can.stands ht.same (ap (λ (o : Outcome). o.change) row) (ap may_render ht.time)
       (text_replies g e b c w not_found_text t low (omega arith) (ap (λ (o : Outcome). o.reply) row ∙ not_found_line) (begun_replies g ws b c t ht) (omega (arith, can.out_room)) (omega arith))))
 
   -- a fixed text
 
-  pub fixed_answers : c.verb ≡ Fixed → (s : RunState) (bound : ℕ) → HasBegun g ws b c s → s.steps + 310 * g.slots + 20 * w + 600 ≤ bound → bound ≤ e.budget → Ends e fixed_program s (Answered g b c w bound)
+  fixed_answers : c.verb ≡ Fixed → AnswersCall g e ws b c w fixed_program
   fixed_answers verb s bound h steps within =
       let row = outcome_row g b c Fixed (lookup c.key b.items) verb refl in
       let said = Block (Const r_index text_index ∷ Input r_number r_index ∷ Emit r_zero ∷ Emit r_number ∷ []) in
@@ -182,3 +174,9 @@ module _ (g : Geometry) (e : Given) (ws : List ℕ) (b : Bucket) (c : Call) (w :
           ),
         ),
       )))
+
+-- each part answers its calls
+pub parts_answer : (which : Part) → AnswersCalls (IsCallOf which) (part_program which)
+parts_answer part.Get = get_answers
+parts_answer part.Delete = delete_answers
+parts_answer part.Fixed = fixed_answers

@@ -1,15 +1,18 @@
 -- The programs of the commands that read or remove an item, and of the fixed texts.
-use Rattle.std.specs.Prelude.{[], ◌∷◌}
+use Rattle.std.specs.Prelude.{◌≡◌, [], ◌∷◌}
+use Rattle.mc_model.specs.declared.call.Verb.TheVariants as verb
+use Rattle.mc_model.specs.Call.{Call}
 use Rattle.mc_model.specs.Texts.{deleted_text, not_found_text, end_text_number}
 use Rattle.sei_stmt.specs.declared.stmt.Stmt.TheVariants.{Const, Input, Emit}
 use Rattle.sei_stmt.specs.Programs.{Prog, Block, Seq, IfEq, IfLt}
+use Rattle.tab_find.specs.Answers.{AtKey}
 use Rattle.tab_find.specs.Inputs.{last_index, text_index}
 use Rattle.tab_find.specs.Registers.{r_zero, r_one, r_key_length, r_place, r_end, r_index, r_flags, r_unique, r_value_length, r_last, r_number}
 use Rattle.tab_find.specs.FindPrograms.{find_program}
 use Rattle.tab_find.specs.StorePrograms.{keep_program, remove_program}
 use Rattle.tab_find.specs.ShowPrograms.{Out, read_run, load_item, read_value, say, if_wanted, answer_text}
-use Rattle.tab_read.specs.declared.fragments.Part.{Part}
-use Rattle.tab_read.specs.declared.fragments.Part.TheVariants.{Get, Delete, Fixed}
+use Rattle.tab_read.specs.declared.commands.Part.{Part}
+use Rattle.tab_read.specs.declared.commands.Part.TheVariants.{Get, Delete, Fixed}
 
 -- get
 
@@ -44,3 +47,9 @@ abbrev pub part_program : Part → Prog
 part_program Get = get_program
 part_program Delete = delete_program
 part_program Fixed = fixed_program
+
+-- the calls that a part is for
+abbrev pub IsCallOf : Part → Call → Type 0
+IsCallOf Get c = AtKey verb.Get c
+IsCallOf Delete c = AtKey verb.Delete c
+IsCallOf Fixed c = c.verb ≡ verb.Fixed

@@ -1,5 +1,5 @@
 -- What the commands answer that store the item which they spell.
-use Rattle.std.proofs.Common.{◌≡◌, ◌≢◌, ℕ, ◌+◌, ◌-◌, ◌*◌, ◌≤◌, inl, inr, List, [], length, Some, None, refl, sym, ap, ◌∙◌, subst, arith}
+use Rattle.std.proofs.Common.{◌≡◌, ℕ, ◌+◌, ◌-◌, ◌*◌, ◌≤◌, inl, inr, List, length, Some, None, refl, sym, ap, ◌∙◌, subst, arith}
 use Rattle.std.specs.Prelude.{false, true, codes, nat_lt, if◌then◌else◌}
 use Rattle.std.proofs.lemmas.Bool.{lt-ltb, le-ltb}
 use Rattle.mc_model.specs.declared.geometry.Geometry.{Geometry}
@@ -21,23 +21,22 @@ use Rattle.sei_stmt.specs.Runs.{Given, RunState, tick}
 use Rattle.sei_stmt.specs.Programs.{Seq, IfLt, Ends, MayRender}
 use Rattle.sei_stmt.specs.Touch.{Touch, anything, Framed}
 use Rattle.sei_stmt.proofs.FrameLaws.{seq, then_so, may_render_open, open_is_parsed}
-use Rattle.tab_find.specs.Answers.{CanAnswer, HasConstants, HasBegun, outcome_at, Replied, Answered}
+use Rattle.tab_find.specs.Answers.{CanAnswer, HasConstants, HasBegun, outcome_at, Replied, Answered, AnswersCall, AnswersCalls, AtKey}
 use Rattle.tab_find.specs.Found.{IsPresent, IsGiven, KeyFound, HasKeyLoaded, Sought, Offered}
 use Rattle.tab_find.specs.Inputs.{block_index}
 use Rattle.tab_find.specs.FindPrograms.{find_program, free_program}
 use Rattle.tab_find.specs.Registers.{r_place, r_end, r_key_length, r_hash, r_key_words, r_flags, r_expiry, r_value_length, r_value_words, r_noreply}
 use Rattle.tab_find.specs.ShowPrograms.{answer_text}
 use Rattle.tab_find.specs.StorePrograms.{load_call, expiry_program, keep_program, draw_program, make_program}
-use Rattle.tab_find.proofs.PublicAnswers.{outcome_row, MayReply, begun_replies, text_replies, answered, KeepsConstants, KeepsBegun, constants_framed, begun_framed, by_key_ends}
+use Rattle.tab_find.proofs.PublicAnswers.{outcome_row, MayReply, begun_replies, text_replies, answered, KeepsConstants, KeepsBegun, constants_framed, begun_framed, find_keeps, answered_tick, some_key, by_key_ends}
 use Rattle.tab_find.proofs.PublicShowing.{sayer}
 use Rattle.tab_find.proofs.PublicFinding.{finding, find_stands, freer, free_ends}
 use Rattle.tab_find.proofs.PublicStoring.{storer, loader, CallLoaded, load_call_ends, dater, Dated, expiry_ends, HasLoaded, keep_ends, draw_ends, make_ends}
-use Rattle.tab_store.specs.Programs.{set_present, set_absent, set_program}
+use Rattle.tab_store.specs.declared.commands.Part.{Part}
+use Rattle.tab_store.specs.declared.commands.Part.TheVariants as part
+use Rattle.tab_store.specs.Programs.{set_present, set_absent, set_program, part_program, IsCallOf}
 
 -- What each program keeps.
-
-find_keeps : KeepsBegun finding
-find_keeps = record { words = refl; out = refl; stage = refl; constants = record { none = refl; moment = refl; one = refl; to_expiry = refl; wide = refl; ends = refl }; noreply = refl }
 
 load_keeps : KeepsBegun loader
 load_keeps = record { words = refl; out = refl; stage = refl; constants = record { none = refl; moment = refl; one = refl; to_expiry = refl; wide = refl; ends = refl }; noreply = refl }
@@ -105,9 +104,6 @@ say_keeps_item = record { flags = refl; expiry = refl; value_length = refl; valu
 free_keeps_item : KeepsItem freer
 free_keeps_item = record { flags = refl; expiry = refl; value_length = refl; value_words = refl }
 
-some_key : (key : List ℕ) → 1 ≤ length key → key ≢ []
-some_key key long e = omega (arith, long, ap length e)
-
 stored_line : line (codes "STORED") ≡ text_line stored_text
 unfolding text_line
 stored_line = refl
@@ -129,10 +125,6 @@ module _ (g : Geometry) (e : Given) (ws : List ℕ) (b : Bucket) (c : Call) (w :
 
   abbrev refused : Outcome
   refused = reply_only (line (codes "SERVER_ERROR out of memory storing object"))
-
-  -- one more statement, which is the jump over the other side
-  answered_tick : (low bound : ℕ) (t : RunState) → low + 1 ≤ bound → Answered g b c w low t → Answered g b c w bound (tick t)
-  answered_tick low bound t le a = record { steps = omega (arith, a.steps, le); stage = a.stage; stands = a.stands; reply = a.reply }
 
   -- the words are as they were, but for the moment
   record IsStill (s : RunState) : Type 0 where
@@ -231,7 +223,7 @@ module _ (g : Geometry) (e : Given) (ws : List ℕ) (b : Bucket) (c : Call) (w :
         | inr none ↦ (
           λ lt. absurd (omega (arith, lt, none.ends, constants.ends)),
           λ le. then_so e anything no_part (tick t) (Answered g b c w (bound - 1)) (λ u. Answered g b c w bound (tick u)) refl
-              (λ u fu a. answered_tick (bound - 1) bound u (omega (arith, steps)) a)
+              (λ u fu a. answered_tick g b c w (bound - 1) bound u (omega (arith, steps)) a)
               (full_ends (tick t) (bound - 1) verb q m gone none.full (omega (arith, d.steps, steps))),
         )
       ])
@@ -273,12 +265,16 @@ module _ (g : Geometry) (e : Given) (ws : List ℕ) (b : Bucket) (c : Call) (w :
       by_key_ends g e ws b c.key set_present set_absent u Q found' hu.constants
       (λ old there. present_ends (tick u) old bound verb (begun_still (tick u) hu) (begun_replies g ws b c (tick u) hu) loaded there (omega (arith, du.steps, steps)))
       (λ gone. then_so e anything set_absent (tick u) (Answered g b c w (bound - 1)) (λ v. Answered g b c w bound (tick v)) refl
-      (λ v fv a. answered_tick (bound - 1) bound v (omega (arith, steps)) a)
+      (λ v fv a. answered_tick g b c w (bound - 1) bound v (omega (arith, steps)) a)
       (absent_ends (tick u) (bound - 1) verb some hu keyed' loaded gone (omega (arith, du.steps, steps)) (omega (arith, within))))))
 
-  pub set_answers : c.verb ≡ Set → 1 ≤ length c.key → (s : RunState) (bound : ℕ) → HasBegun g ws b c s → s.steps + 310 * g.slots + 20 * w + 600 ≤ bound → bound ≤ e.budget → Ends e set_program s (Answered g b c w bound)
-  set_answers verb some s bound h steps within =
+  set_answers : AtKey Set c → AnswersCall g e ws b c w set_program
+  set_answers (verb, some) s bound h steps within =
       let low = s.steps + 300 * g.slots + 20 in
       seq e finding find_program (Seq load_call (Seq expiry_program (IfLt r_place r_end set_present set_absent))) s (Sought g ws b c.key low) (Answered g b c w bound) refl
       (find_stands g e ws b c.key can.valid can.stands can.bounded (can.call.key (some_key c.key some)) some s low (ap is_parsed h.time) h.same h.constants (omega arith))
       (λ t f d. found_ends t bound verb some (begun_framed finding g ws b c s t find_keeps f h) d.loaded d.result (omega (arith, d.steps, steps)) within)
+
+-- each part answers its calls
+pub parts_answer : (which : Part) → AnswersCalls (IsCallOf which) (part_program which)
+parts_answer part.Set = set_answers

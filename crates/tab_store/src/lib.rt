@@ -1,12 +1,10 @@
 //! The tables of the commands that store the item which they spell. Today this is set.
 #![tactic(auto)]
 
-mod fragments;
+mod commands;
 mod laws;
-mod storing;
 #[cfg(test)]
 mod tests;
 
-pub use fragments::{Part, fragment};
-pub use laws::set_answers;
-pub use storing::set;
+pub use commands::{Part, fragment, program};
+pub use laws::parts_answer;

@@ -9,7 +9,9 @@ use sei_fault::PlainCore;
 use sei_log::{Notes, WriteLog};
 use sei_outside::SetClock;
 use sei_pass::{Pass, PassStep, Sealed, Which};
+use sei_stmt::{Program, Stmt, target};
 use sei_words::Words;
+use tab_find::registers::{NUMBER, VERB};
 
 /// Makes the statement at the index, where the clock answers `second`.
 #[tactic(auto, using(crate::proofs::PassLaws::sealed_words_fit, crate::proofs::PassLaws::one_geometry))]
@@ -167,8 +169,42 @@ fn statements(
     Ok(counts)
 }
 
+/// Which register the statements put out first if the register that they choose by holds `number`, and how many they make before.
+fn chosen(stmts: &[Stmt], number: u64) -> Option<(u8, u64)> {
+    let mut bound = 0;
+    let mut at = 0;
+    for made in 0..100 {
+        match stmts.get(at as usize) {
+            Some(Stmt::Const { number, .. }) => {
+                bound = *number;
+                at += 1;
+            }
+            Some(Stmt::JumpLt { offset, .. }) if number < bound => at = target(at, *offset),
+            Some(Stmt::JumpLt { .. }) => at += 1,
+            Some(Stmt::Emit { from }) => return Some((*from, made)),
+            _ => return None,
+        }
+    }
+    None
+}
+
+/// Each of the 16 numbers comes to its program in eight statements. A jump over the programs behind it makes nine.
+#[test]
+fn the_choice_costs_nine_statements(rt: HostRuntime) -> Result<(), Fail> {
+    let alloc = rt.alloc();
+    let mut programs = Vec::new(alloc);
+    for from in 0..16u8 {
+        programs.push(Program::block(alloc, &[Stmt::Emit { from }])?)?;
+    }
+    let stmts = Program::halves(alloc, 4, VERB, NUMBER, programs)?.flatten(alloc)?;
+    for from in 0..16u8 {
+        assert!(rt; chosen(&stmts, from as u64) == Some((from, 8)));
+    }
+    Ok(())
+}
+
 /// The commands in a bucket of one slot, with a key of one byte and a value of one word, at second 0, which is before each
-/// moment. The first call sets the moment, which costs three more. The choice among the 16 commands is nine at most.
+/// moment. The first call sets the moment, which costs three more.
 #[test]
 fn each_command_costs_few_statements(rt: HostRuntime) -> Result<(), Fail> {
     let made = statements(

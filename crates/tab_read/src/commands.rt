@@ -1,11 +1,13 @@
-//! The programs of the commands. The error of each call is that memory ran out.
-ghost use Rattle.std.specs.Prelude.{◌≡◌, IfOk};
+//! The commands and their programs. The error of each call is that memory ran out.
+ghost use Rattle.mc_model.specs.Server.{IsValid};
+ghost use Rattle.sei_stmt.specs.Programs.{flatten};
 ghost use Rattle.sei_stmt.specs.Written.{prog_of};
+ghost use Rattle.std.specs.Prelude.{◌≡◌, IfOk};
 ghost use Rattle.tab_read.specs.Programs as programs;
 
-use mc_model::texts;
+use mc_model::{Geometry, texts};
 use sei_code::Memory;
-use sei_stmt::{Program, Stmt};
+use sei_stmt::{Fragment, Program, Stmt};
 use std::alloc::Global;
 use tab_find::registers::*;
 use tab_find::statements::{input, set};
@@ -13,6 +15,17 @@ use tab_find::{
     answer_text, find, if_wanted, inputs, keep_item, load_item, remove_item, say, show_run,
     show_value,
 };
+
+/// The commands of this crate.
+#[derive(Clone, Copy, Debug, PartialEq, Eq)]
+pub enum Part {
+    /// Shows the item of a key.
+    Get,
+    /// Removes the item of a key.
+    Delete,
+    /// Answers with a fixed text.
+    Fixed,
+}
 
 /// The output words of an item before its key.
 fn show_fields(alloc: Global) -> Result<Program, Memory>
@@ -63,7 +76,7 @@ fn get_present(alloc: Global) -> Result<Program, Memory>
 }
 
 /// Get.
-pub fn get(alloc: Global) -> Result<Program, Memory>
+fn get(alloc: Global) -> Result<Program, Memory>
     ensures { IfOk result (λ p. prog_of p ≡ programs.get_program) }
 {
     let present = get_present(alloc)?;
@@ -74,7 +87,7 @@ pub fn get(alloc: Global) -> Result<Program, Memory>
 }
 
 /// Delete.
-pub fn delete(alloc: Global) -> Result<Program, Memory>
+fn delete(alloc: Global) -> Result<Program, Memory>
     ensures { IfOk result (λ p. prog_of p ≡ programs.delete_program) }
 {
     let removed = remove_item(alloc)?;
@@ -85,7 +98,7 @@ pub fn delete(alloc: Global) -> Result<Program, Memory>
 }
 
 /// The text of the call.
-pub fn fixed(alloc: Global) -> Result<Program, Memory>
+fn fixed(alloc: Global) -> Result<Program, Memory>
     ensures { IfOk result (λ p. prog_of p ≡ programs.fixed_program) }
 {
     let said = Program::block(
@@ -98,4 +111,24 @@ pub fn fixed(alloc: Global) -> Result<Program, Memory>
         ],
     )?;
     if_wanted(alloc, said)
+}
+
+/// The program of a command, from after the moment and the call's marks.
+pub fn program(alloc: Global, which: Part) -> Result<Program, Memory>
+    ensures { IfOk result (λ p. prog_of p ≡ programs.part_program which) }
+{
+    match which {
+        Part::Get => get(alloc),
+        Part::Delete => delete(alloc),
+        Part::Fixed => fixed(alloc),
+    }
+}
+
+/// Its statements.
+pub fn fragment(alloc: Global, _g: &Geometry, which: Part) -> Result<Fragment, Memory>
+    requires { IsValid _g.now }
+    ensures { IfOk result (λ f. f ≡ flatten (programs.part_program which)) }
+{
+    let program = program(alloc, which)?;
+    Fragment::of(alloc, &program)
 }

@@ -1,5 +1,0 @@
-use Rattle.tab_read.proofs.PublicRead as read
-use Rattle.tab_read.proofs.laws.delete_answers.Goals as goal
-
-pub returns : goal.returns
-returns c = read.delete_answers
