@@ -1,14 +1,13 @@
 -- What the programs of a slot's fields leave: the fields of the item, and a value that can follow.
-use Rattle.std.proofs.Common.{◌≡◌, ◌≢◌, ℕ, ◌+◌, ◌^◌, ◌<◌, ◌≤◌, ◌⊎◌, inl, inr, List, length, refl, sym, ap, ◌∙◌, arith}
+use Rattle.std.proofs.Common.{◌≡◌, ◌≢◌, ℕ, ◌+◌, ◌<◌, ◌≤◌, ◌⊎◌, inl, inr, List, length, refl, sym, ap, ◌∙◌, arith}
 use Rattle.std.specs.Prelude.{slice_index}
 use Rattle.mc_model.specs.declared.geometry.Geometry.{Geometry}
 use Rattle.mc_model.specs.Bucket.{Item, Bucket}
-use Rattle.mc_model.specs.Packed.{AreBytes, words_for, pack}
+use Rattle.mc_model.specs.Packed.{pack}
 use Rattle.mc_model.specs.Server.{IsValid}
 use Rattle.mc_model.proofs.PublicPacking.{length_pack}
 use Rattle.sei_words.specs.Layout.{first_slot, used_offset, hash_offset, key_length_offset, flags_offset, expiry_offset, unique_offset, value_length_offset, key_offset, value_offset, slot_at, word_count, field}
 use Rattle.sei_words.specs.Free.{IsTaken}
-use Rattle.sei_words.specs.Stored.{StoredAt}
 use Rattle.sei_words.specs.Value.{OthersStay}
 use Rattle.sei_words.specs.Stands.{Reads}
 use Rattle.sei_words.specs.Changes.{HasHead, HeadStored, OnlyFields, HasFields}
@@ -19,28 +18,12 @@ use Rattle.sei_stmt.specs.Order.{is_parsed}
 use Rattle.sei_stmt.specs.Runs.{Given, RunState}
 use Rattle.sei_stmt.specs.Programs.{Ends, IsParsed}
 use Rattle.sei_stmt.proofs.FrameLaws.{then_so}
-use Rattle.tab_find.specs.Registers.{r_zero, r_one, r_place, r_flags, r_expiry, r_unique, r_value_length, r_value_words}
+use Rattle.tab_find.specs.Registers.{r_zero, r_one, r_place, r_unique, r_value_words}
 use Rattle.tab_find.specs.StorePrograms.{replace_fields}
 use Rattle.tab_find.proofs.Copy.{put_all, put_all_size, put_all_off, put_all_stored}
 use Rattle.tab_find.proofs.FieldStores.{fielder, fields_of, Stored, replace_fields_end}
-use Rattle.tab_find.specs.Copies.{CanStoreIn}
+use Rattle.tab_find.specs.Copies.{CanStoreIn, HasLoaded}
 use Rattle.tab_find.proofs.ItemEnds.{FieldsStored}
-
--- the item x stands in the registers and among the input words from `index` on, but for its unique, which is drawn
-pub record Loaded (input : List ℕ) (index w : ℕ) (g : Geometry) (x : Item) (r18 r19 r21 r22 : ℕ) : Type 0 where
-  pub flags : r18 ≡ x.flags
-  pub expiry : r19 ≡ x.expiry
-  pub value_length : r21 ≡ length x.value
-  pub value_words : r22 ≡ words_for (length x.value)
-  pub bytes : AreBytes x.value
-  pub fits : words_for (length x.value) ≤ g.value_words
-  pub few : words_for (length x.value) ≤ w
-  pub stored : StoredAt input index (pack x.value)
-  pub room : index + words_for (length x.value) ≤ length input
-  pub near : index < 2 ^ 32
-
-abbrev pub HasLoaded : List ℕ → ℕ → ℕ → Geometry → Item → RunState → Type 0
-HasLoaded input index w g x s = Loaded input index w g x (s.regs r_flags) (s.regs r_expiry) (s.regs r_value_length) (s.regs r_value_words)
 
 -- before the fields: the counter alone was stored, and the registers have all that goes into slot i
 pub record CanStoreFields (g : Geometry) (e : Given) (ws : List ℕ) (b : Bucket) (counter i index w : ℕ) (x : Item) (u : RunState) : Type 0 where

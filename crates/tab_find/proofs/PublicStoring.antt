@@ -30,10 +30,9 @@ use Rattle.tab_find.proofs.ItemEnds.{ItemStored}
 pub use Rattle.tab_find.specs.Copies.{IsCopied, Copied, CanCopy}
 pub use Rattle.tab_find.proofs.Copy.{copier, copy_run_ends}
 pub use Rattle.tab_find.proofs.CounterEnds.{drawer, drawn, Drawn, counter_ends}
-pub use Rattle.tab_find.specs.Copies.{store_steps, store_stores, CanStoreValue, CanStoreIn, HasStored}
+pub use Rattle.tab_find.specs.Copies.{store_steps, store_stores, CanStoreValue, CanStoreIn, HasStored, Loaded, HasLoaded}
 pub use Rattle.tab_find.proofs.StoreValue.{value_registers, storer, store_value_ends}
 pub use Rattle.tab_find.proofs.ItemEnds.{FieldsStored, item_ends}
-pub use Rattle.tab_find.proofs.FieldEnds.{Loaded, HasLoaded}
 pub use Rattle.tab_find.proofs.ExpiryEnds.{loader, CallLoaded, load_call_ends, dater, Dated, expiry_ends}
 
 -- nothing changes

@@ -1,13 +1,15 @@
 -- What the programs that copy input words into the words of a bucket stand on, and what they come to.
 use Rattle.std.specs.Prelude.{◌≡◌, ◌⊎◌, ℕ, ◌+◌, ◌*◌, ◌^◌, ◌<◌, ◌≤◌, List, length, slice_index}
 use Rattle.mc_model.specs.declared.geometry.Geometry.{Geometry}
+use Rattle.mc_model.specs.Bucket.{Item}
+use Rattle.mc_model.specs.Packed.{AreBytes, words_for, pack}
 use Rattle.mc_model.specs.Server.{IsValid}
 use Rattle.sei_words.specs.Layout.{value_offset, slot_at, word_count}
 use Rattle.sei_words.specs.Stored.{StoredAt}
 use Rattle.sei_words.specs.Changes.{ValueStored}
 use Rattle.sei_stmt.specs.Runs.{Given, RunState}
 use Rattle.sei_stmt.specs.Programs.{IsParsed}
-use Rattle.tab_find.specs.Registers.{r_zero, r_one, r_place, r_value_words}
+use Rattle.tab_find.specs.Registers.{r_zero, r_one, r_place, r_flags, r_expiry, r_value_length, r_value_words}
 
 -- A run of words.
 
@@ -73,3 +75,21 @@ pub record HasStored (g : Geometry) (m : ℕ) (ws : List ℕ) (i : ℕ) (vs : Li
   pub steps : t.steps ≤ bound
   pub stores : t.stores ≤ most
   pub value : ValueStored g m ws t.words i vs
+
+-- The item that is to be stored.
+
+-- the item x stands in the registers and among the input words from `index` on, but for its unique
+pub record Loaded (input : List ℕ) (index w : ℕ) (g : Geometry) (x : Item) (r18 r19 r21 r22 : ℕ) : Type 0 where
+  pub flags : r18 ≡ x.flags
+  pub expiry : r19 ≡ x.expiry
+  pub value_length : r21 ≡ length x.value
+  pub value_words : r22 ≡ words_for (length x.value)
+  pub bytes : AreBytes x.value
+  pub fits : words_for (length x.value) ≤ g.value_words
+  pub few : words_for (length x.value) ≤ w
+  pub stored : StoredAt input index (pack x.value)
+  pub room : index + words_for (length x.value) ≤ length input
+  pub near : index < 2 ^ 32
+
+abbrev pub HasLoaded : List ℕ → ℕ → ℕ → Geometry → Item → RunState → Type 0
+HasLoaded input index w g x s = Loaded input index w g x (s.regs r_flags) (s.regs r_expiry) (s.regs r_value_length) (s.regs r_value_words)
