@@ -6,7 +6,7 @@ use Rattle.sei_stmt.specs.declared.stmt.Stmt.{Stmt}
 use Rattle.sei_stmt.specs.declared.stmt.Stmt.TheVariants.{Const, Move, Add, Input, Load, Store}
 use Rattle.sei_stmt.specs.Programs.{Prog, Block, Seq, IfEq, IfLt, RepeatLt}
 use Rattle.tab_find.specs.Inputs.{flags_index, negative_index, exptime_index, block_length_index, block_words_index, key_index}
-use Rattle.tab_find.specs.Registers.{r_zero, r_moment, r_one, r_key_length, r_hash, r_key_words, r_place, r_address, r_word, r_index, r_limit, r_flags, r_expiry, r_unique, r_value_length, r_value_words}
+use Rattle.tab_find.specs.Registers.{r_zero, r_moment, r_one, r_expiry_offset, r_key_length, r_hash, r_key_words, r_place, r_address, r_word, r_index, r_limit, r_flags, r_expiry, r_unique, r_value_length, r_value_words}
 
 -- Runs of words.
 
@@ -51,7 +51,8 @@ new_head =
 abbrev pub new_fields : Prog
 new_fields = Seq new_head (Seq (Block (Add r_limit r_index r_key_words ∷ [])) (copy_run r_limit))
 
--- One program for each kind of change that a call can make at its key. Each ends a command.
+-- One program for each kind of change that a call can make, and two for an item that is put: one for the whole item, and one
+-- for its expiry alone. Each ends a command.
 
 -- the next cas unique: the counter goes on by one
 abbrev pub draw : Prog
@@ -61,9 +62,17 @@ draw = Block (Load r_unique r_one ∷ Add r_unique r_unique r_one ∷ Store r_on
 abbrev pub keep_program : Prog
 keep_program = Block []
 
+-- the item in the slot at r_place is replaced by the one in the registers, whose value stands from this input index on
+abbrev pub put_program : ℕ → Prog
+put_program index = Seq replace_fields (store_value index)
+
+-- the item in the slot at r_place gets the expiry in r_expiry, and all else of it stays
+abbrev pub put_expiry_program : Prog
+put_expiry_program = Block (Add r_address r_place r_expiry_offset ∷ Store r_address r_expiry ∷ [])
+
 -- the item in the slot at r_place is replaced by one with a drawn unique, whose value stands from this input index on
 abbrev pub draw_program : ℕ → Prog
-draw_program index = Seq draw (Seq replace_fields (store_value index))
+draw_program index = Seq draw (put_program index)
 
 -- a new item with a drawn unique is made in the free slot at r_place
 abbrev pub make_program : ℕ → Prog

@@ -128,12 +128,30 @@ pub fn keep_item(alloc: Global) -> Program
     Program::empty(alloc)
 }
 
+/// Replaces the item that was found by the one that is loaded, without a draw; its value stands among the input words from
+/// `index` on.
+pub fn put_item(alloc: Global, index: u64) -> Result<Program, Memory>
+    ensures { IfOk result (λ p. prog_of p ≡ programs.put_program index) }
+{
+    let value = store_value(alloc, index)?;
+    replace_fields(alloc)?.then(alloc, value)
+}
+
+/// Gives the item that was found the expiry that is loaded. All else of it stays.
+pub fn put_expiry(alloc: Global) -> Result<Program, Memory>
+    ensures { IfOk result (λ p. prog_of p ≡ programs.put_expiry_program) }
+{
+    Program::block(
+        alloc,
+        &[add(ADDRESS, PLACE, EXPIRY_OFFSET), store(ADDRESS, EXPIRY)],
+    )
+}
+
 /// Replaces the item that was found by one with a drawn cas unique, whose value stands among the input words from `index` on.
 pub fn draw_item(alloc: Global, index: u64) -> Result<Program, Memory>
     ensures { IfOk result (λ p. prog_of p ≡ programs.draw_program index) }
 {
-    let value = store_value(alloc, index)?;
-    let item = replace_fields(alloc)?.then(alloc, value)?;
+    let item = put_item(alloc, index)?;
     draw(alloc)?.then(alloc, item)
 }
 

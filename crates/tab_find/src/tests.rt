@@ -45,6 +45,8 @@ fn each_program_that_shows_is_made(rt: HostRuntime) -> Result<(), Fail> {
 fn each_program_that_stores_is_made(rt: HostRuntime) -> Result<(), Fail> {
     assert_eq!(rt; count(rt, &load_call(rt.alloc())?)?, 6);
     assert_eq!(rt; count(rt, &expiry(rt.alloc())?)?, 15);
+    assert_eq!(rt; count(rt, &put_item(rt.alloc(), inputs::BLOCK)?)?, 19);
+    assert_eq!(rt; count(rt, &put_expiry(rt.alloc())?)?, 2);
     assert_eq!(rt; count(rt, &draw_item(rt.alloc(), inputs::BLOCK)?)?, 22);
     assert_eq!(rt; count(rt, &make_item(rt.alloc(), inputs::BLOCK)?)?, 35);
     assert_eq!(rt; count(rt, &remove_item(rt.alloc())?)?, 1);

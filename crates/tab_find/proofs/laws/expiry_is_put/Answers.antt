@@ -1,0 +1,5 @@
+use Rattle.tab_find.proofs.PublicStoring as found
+use Rattle.tab_find.proofs.laws.expiry_is_put.Goals as goal
+
+pub returns : goal.returns
+returns c = found.put_expiry_ends
