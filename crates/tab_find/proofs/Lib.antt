@@ -20,4 +20,5 @@ pub mod FieldEnds
 pub mod NewEnds
 pub mod CounterEnds
 pub mod ExpiryEnds
+pub mod ClearEnds
 pub mod PublicStoring

@@ -34,6 +34,7 @@ pub use Rattle.tab_find.proofs.CounterEnds.{drawer, drawn, Drawn, counter_ends}
 pub use Rattle.tab_find.specs.Copies.{store_steps, store_stores, CanStoreValue, CanStoreIn, HasStored, Loaded, HasLoaded}
 pub use Rattle.tab_find.proofs.StoreValue.{value_registers, storer, store_value_ends}
 pub use Rattle.tab_find.proofs.ItemEnds.{FieldsStored, item_ends}
+pub use Rattle.tab_find.proofs.ClearEnds.{clear_ends}
 pub use Rattle.tab_find.proofs.ExpiryEnds.{loader, CallLoaded, load_call_ends, dater, Dated, expiry_ends}
 
 -- nothing changes

@@ -1,12 +1,12 @@
 -- The programs that change the words of a bucket.
 use Rattle.std.specs.Prelude.{ℕ, ◌-◌, ◌^◌, List, [], ◌∷◌, ◌++◌}
-use Rattle.sei_words.specs.Layout.{flags_offset, value_offset}
+use Rattle.sei_words.specs.Layout.{first_slot, flags_offset, value_offset}
 use Rattle.mc_model.specs.Items.{thirty_days}
 use Rattle.sei_stmt.specs.declared.stmt.Stmt.{Stmt}
 use Rattle.sei_stmt.specs.declared.stmt.Stmt.TheVariants.{Const, Move, Add, Input, Load, Store}
 use Rattle.sei_stmt.specs.Programs.{Prog, Block, Seq, IfEq, IfLt, RepeatLt}
 use Rattle.tab_find.specs.Inputs.{flags_index, negative_index, exptime_index, block_length_index, block_words_index, key_index}
-use Rattle.tab_find.specs.Registers.{r_zero, r_moment, r_one, r_expiry_offset, r_key_length, r_hash, r_key_words, r_place, r_address, r_word, r_index, r_limit, r_flags, r_expiry, r_unique, r_value_length, r_value_words}
+use Rattle.tab_find.specs.Registers.{r_zero, r_moment, r_one, r_expiry_offset, r_width, r_end, r_key_length, r_hash, r_key_words, r_place, r_address, r_word, r_index, r_limit, r_flags, r_expiry, r_unique, r_value_length, r_value_words}
 
 -- Runs of words.
 
@@ -81,6 +81,14 @@ make_program index = Seq draw (Seq new_fields (store_value index))
 -- the item in the slot at r_place is removed: a slot whose first word is 0 is free
 abbrev pub remove_program : Prog
 remove_program = Block (Store r_place r_zero ∷ [])
+
+-- one slot becomes free, and the address goes on to the next one
+abbrev pub clear_turn : List Stmt
+clear_turn = Store r_address r_zero ∷ Add r_address r_address r_width ∷ []
+
+-- all items are removed: each slot, of which there is one at least, becomes free
+abbrev pub clear_program : Prog
+clear_program = Seq (Block (Const r_address first_slot ∷ [])) (RepeatLt r_address r_end (Block clear_turn))
 
 -- The item that a call spells.
 

@@ -16,7 +16,7 @@ ghost use Rattle.tab_find.specs.FindPrograms.{moment_program, find_program, free
 ghost use Rattle.tab_find.specs.Fit.{FitIsAnswer};
 ghost use Rattle.tab_find.specs.Found.{Arrived, Sought, Offered, IsPresent, Changed};
 ghost use Rattle.tab_find.specs.Registers.{r_zero, r_one, r_place, r_address, r_index, r_limit, r_expiry, r_unique};
-ghost use Rattle.tab_find.specs.StorePrograms.{copy_run, store_value, put_program, put_expiry_program};
+ghost use Rattle.tab_find.specs.StorePrograms.{copy_run, store_value, put_program, put_expiry_program, clear_program};
 
 /// The moment's program leaves words that stand for the bucket as it is when the call arrives, and sets the constants. `r_zero`
 /// is 0 before it, as each register is when a run begins.
@@ -64,4 +64,10 @@ pub fn expiry_is_put()
     ensures { (g : Geometry) (e : Given) (ws : List ℕ) (b : Bucket) (key : List ℕ) (old : Item) (expiry : ℕ) → IsValid g → StandsFor g ws b → (s : RunState) (bound most : ℕ) →
         IsPresent g ws b key old (s.regs r_place) → s.regs r_expiry ≡ expiry → s.words ≡ ws → HasConstants g b.moment s → s.floor ≤ 1 → s.stores + 1 ≤ most → most ≤ e.log_room → s.steps + 2 ≤ bound →
         Ends e put_expiry_program s (Changed g key (change.Put (record old { expiry = expiry })) b bound most) }
+{}
+
+/// The program that removes all items leaves words that stand for the bucket with no items.
+pub fn items_are_cleared()
+    ensures { (g : Geometry) (e : Given) (ws : List ℕ) (b : Bucket) (key : List ℕ) → IsValid g → StandsFor g ws b → (s : RunState) (bound most : ℕ) → s.words ≡ ws → HasConstants g b.moment s →
+        s.floor ≤ 1 → s.stores + g.slots ≤ most → most ≤ e.log_room → s.steps + 3 * g.slots + 1 ≤ bound → Ends e clear_program s (Changed g key change.Clear b bound most) }
 {}

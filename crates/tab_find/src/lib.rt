@@ -17,10 +17,11 @@ mod tests;
 pub use finding::{find, free, moment};
 pub use fragments::{Part, fragment};
 pub use laws::{
-    expiry_is_put, find_stands, free_ends, item_is_put, key_is_copied, moment_stands,
-    value_is_stored,
+    expiry_is_put, find_stands, free_ends, item_is_put, items_are_cleared, key_is_copied,
+    moment_stands, value_is_stored,
 };
 pub use showing::{answer_text, if_wanted, load_item, say, show_run, show_value};
 pub use storing::{
-    draw_item, expiry, keep_item, load_call, make_item, put_expiry, put_item, remove_item,
+    clear_items, draw_item, expiry, keep_item, load_call, make_item, put_expiry, put_item,
+    remove_item,
 };

@@ -171,6 +171,15 @@ pub fn remove_item(alloc: Global) -> Result<Program, Memory>
     Program::block(alloc, &[store(PLACE, ZERO)])
 }
 
+/// Removes all items: each slot is free.
+pub fn clear_items(alloc: Global) -> Result<Program, Memory>
+    ensures { IfOk result (λ p. prog_of p ≡ programs.clear_program) }
+{
+    let first = Program::block(alloc, &[set(ADDRESS, layout::FIRST_SLOT)])?;
+    let turn = Program::block(alloc, &[store(ADDRESS, ZERO), add(ADDRESS, ADDRESS, WIDTH)])?;
+    first.then(alloc, Program::repeat_lt(alloc, ADDRESS, END, turn)?)
+}
+
 /// Loads the flags, the length and the number of words of the block that the call spells.
 pub fn load_call(alloc: Global) -> Result<Program, Memory>
     ensures { IfOk result (λ p. prog_of p ≡ programs.load_call) }

@@ -50,6 +50,7 @@ fn each_program_that_stores_is_made(rt: HostRuntime) -> Result<(), Fail> {
     assert_eq!(rt; count(rt, &draw_item(rt.alloc(), inputs::BLOCK)?)?, 22);
     assert_eq!(rt; count(rt, &make_item(rt.alloc(), inputs::BLOCK)?)?, 35);
     assert_eq!(rt; count(rt, &remove_item(rt.alloc())?)?, 1);
+    assert_eq!(rt; count(rt, &clear_items(rt.alloc())?)?, 4);
     assert_eq!(rt; count(rt, &keep_item(rt.alloc()))?, 0);
     Ok(())
 }
