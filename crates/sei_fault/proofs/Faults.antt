@@ -8,6 +8,7 @@ use Rattle.sei_fault.specs.declared.plan.Kind.TheVariants.{Read, Write, Skip, Re
 use Rattle.sei_fault.specs.declared.script.Stage.{Stage}
 use Rattle.sei_fault.specs.declared.script.Stage.TheVariants.{Armed}
 use Rattle.sei_fault.specs.declared.plan.Planned.{Planned}
+use Rattle.sei_fault.specs.declared.plan.StepCounts.{StepCounts}
 use Rattle.sei_fault.specs.Phases.{phase_number}
 use Rattle.sei_fault.specs.Plans.{same_place, fault}
 use Rattle.sei_fault.specs.Question.{Question, Answer, honestly_to}
@@ -60,18 +61,18 @@ flip_alters true e = cc
 flip_alters false e = cc
 
 -- of each kind of fault, and each question
-pub fault_alters : (kind : Kind) (reads : ℕ) (q : Question) (a : Answer q) → fault kind reads q ≡ Some a → a ≡ honestly_to q → ⊥
-fault_alters (Read nth mask) reads (Value h) a e f = read_alters reads nth mask h a e f
-fault_alters (Write mask) reads (Written h) a e f = write_alters mask h a e f
-fault_alters Flip reads (Test h) a e f = let g : not h ≡ a = cc in flip_alters h (g ∙ f)
-fault_alters Skip reads (Often site) a e f = let z : ⊥ = cc in absurd z
-fault_alters Repeat reads (Often site) a e f = let z : ⊥ = cc in absurd z
-fault_alters (Jump to) reads (Goes h) a e f = jump_alters to h a e f
-fault_alters kind reads q a e f = let z : ⊥ = cc in absurd z
+pub fault_alters : (kind : Kind) (so_far : StepCounts) (q : Question) (a : Answer q) → fault kind so_far q ≡ Some a → a ≡ honestly_to q → ⊥
+fault_alters (Read nth mask) so_far (Value h) a e f = read_alters so_far.value nth mask h a e f
+fault_alters (Write mask) so_far (Written h) a e f = write_alters mask h a e f
+fault_alters Flip so_far (Test h) a e f = let g : not h ≡ a = cc in flip_alters h (g ∙ f)
+fault_alters Skip so_far (Often site) a e f = let z : ⊥ = cc in absurd z
+fault_alters Repeat so_far (Often site) a e f = let z : ⊥ = cc in absurd z
+fault_alters (Jump to) so_far (Goes h) a e f = jump_alters to h a e f
+fault_alters kind so_far q a e f = let z : ⊥ = cc in absurd z
 
 -- a plan that is not armed alters nothing
 armed_alters : (plan : Option Planned) (stage : Stage) (q : Question) (a : Answer q) → altered_in plan stage q ≡ Some a → a ≡ honestly_to q → ⊥
-armed_alters (Some p) (Armed reads) q a e f = fault_alters p.kind reads q a e f
+armed_alters (Some p) (Armed so_far) q a e f = fault_alters p.kind so_far q a e f
 armed_alters plan stage q a e f = let z : ⊥ = cc in absurd z
 
 -- and so of the core: what it counts as a strike is no honest answer

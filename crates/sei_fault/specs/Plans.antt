@@ -1,5 +1,5 @@
 -- Which step a planned fault fits, and which answers it alters there.
-use Rattle.std.specs.Prelude.{ℕ, Bool, true, false, not, ◌&&◌, ◌==◌, if◌then◌else◌, Option, Some, None, bit_xor}
+use Rattle.std.specs.Prelude.{ℕ, ◌+◌, ◌-◌, ◌^◌, min, Bool, true, false, not, ◌&&◌, ◌==◌, if◌then◌else◌, Option, Some, None, bit_xor}
 use Rattle.sei_fault.specs.declared.place.Act.{Act}
 use Rattle.sei_fault.specs.declared.place.Act.TheVariants as act
 use Rattle.sei_fault.specs.declared.place.Phase.{Phase}
@@ -11,6 +11,7 @@ use Rattle.sei_fault.specs.declared.plan.Kind.TheVariants.{Read, Write, Skip, Re
 use Rattle.sei_fault.specs.declared.plan.Planned.{Planned}
 use Rattle.sei_fault.specs.declared.plan.Select.{Select}
 use Rattle.sei_fault.specs.declared.plan.Select.TheVariants.{Index, Load, Store, Now, Alloc, Parse, Render, Halt}
+use Rattle.sei_fault.specs.declared.plan.StepCounts.{StepCounts}
 use Rattle.sei_fault.specs.Phases.{phase_number}
 use Rattle.sei_fault.specs.Question.{Question, Answer}
 use Rattle.sei_fault.specs.Question.Question.{Value, Written, Test, Often, Goes}
@@ -37,13 +38,21 @@ selects select index a = false
 abbrev pub fits : Planned → Site → Bool
 fits plan site = same_phase plan.phase site.place.phase && selects plan.select site.place.index site.act
 
--- what a fault of this kind answers in its step, where it alters the answer: so many values were
--- read before in the step, and no answer was altered yet
-abbrev pub fault : Kind → ℕ → (q : Question) → Option (Answer q)
-fault (Read nth mask) reads (Value h) = if reads == nth && not (mask == 0) then Some (bit_xor h mask) else None
-fault (Write mask) reads (Written h) = if mask == 0 then None else Some (bit_xor h mask)
-fault Flip reads (Test h) = Some (not h)
-fault Skip reads (Often site) = Some times.Skip
-fault Repeat reads (Often site) = Some times.Twice
-fault (Jump to) reads (Goes h) = if same_place to h then None else Some to
-fault kind reads q = None
+-- no answer was counted in the step yet
+abbrev pub none_yet : StepCounts
+none_yet = record { value = 0 }
+
+-- one value more was read in the step; the count stays at the last value of a u64
+abbrev pub one_value_more : StepCounts → StepCounts
+one_value_more so_far = record so_far { value = min (so_far.value + 1) (2 ^ 64 - 1) }
+
+-- what a fault of this kind answers in its step, where it alters the answer: so many answers were
+-- counted before in the step, and none was altered yet
+abbrev pub fault : Kind → StepCounts → (q : Question) → Option (Answer q)
+fault (Read nth mask) so_far (Value h) = if so_far.value == nth && not (mask == 0) then Some (bit_xor h mask) else None
+fault (Write mask) so_far (Written h) = if mask == 0 then None else Some (bit_xor h mask)
+fault Flip so_far (Test h) = Some (not h)
+fault Skip so_far (Often site) = Some times.Skip
+fault Repeat so_far (Often site) = Some times.Twice
+fault (Jump to) so_far (Goes h) = if same_place to h then None else Some to
+fault kind so_far q = None

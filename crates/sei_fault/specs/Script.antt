@@ -1,16 +1,16 @@
 -- The core that carries out one planned fault, by its plan and what became of it.
-use Rattle.std.specs.Prelude.{ℕ, ◌+◌, ◌-◌, ◌^◌, min, Bool, true, false, if◌then◌else◌, Option, Some, None, is_some, unwrap_or}
+use Rattle.std.specs.Prelude.{ℕ, ◌-◌, Bool, true, false, if◌then◌else◌, Option, Some, None, is_some, unwrap_or}
 use Rattle.sei_fault.specs.declared.place.Site.{Site}
 use Rattle.sei_fault.specs.declared.plan.Planned.{Planned}
 use Rattle.sei_fault.specs.declared.script.Stage.{Stage}
 use Rattle.sei_fault.specs.declared.script.Stage.TheVariants.{Waiting, Armed, Struck, Over}
 use Rattle.sei_fault.specs.Counts.{Counts, counted}
-use Rattle.sei_fault.specs.Plans.{fits, fault}
+use Rattle.sei_fault.specs.Plans.{fits, none_yet, one_value_more, fault}
 use Rattle.sei_fault.specs.Question.{Question, Answer, honestly_to}
 use Rattle.sei_fault.specs.Question.Question.{Value, Often}
 
 -- how many questions were asked, the plan, and where it stands: it waits for its step, its step is
--- being made and so many values were read in it, it has struck, or its step is over
+-- being made and so many answers were counted in it, it has struck, or its step is over
 pub record ScriptState : Type 0 where
   pub asked : ℕ
   pub plan : Option Planned
@@ -22,12 +22,12 @@ script_begin plan = record { asked = 0; plan = plan; stage = Waiting }
 -- a plan that waits is armed where it fits the site
 abbrev pub waited : Option Planned → Site → Stage
 waited None site = Waiting
-waited (Some p) site = if fits p site then Armed 0 else Waiting
+waited (Some p) site = if fits p site then Armed none_yet else Waiting
 
 -- a step begins at the site
 abbrev pub begun : Option Planned → Stage → Site → Stage
 begun plan Waiting site = waited plan site
-begun plan (Armed reads) site = Over
+begun plan (Armed so_far) site = Over
 begun plan Struck site = Struck
 begun plan Over site = Over
 
@@ -38,7 +38,7 @@ stage_at plan stage q = stage
 
 -- what the plan answers in a stage, where it alters the answer
 abbrev pub altered_in : Option Planned → Stage → (q : Question) → Option (Answer q)
-altered_in (Some p) (Armed reads) q = fault p.kind reads q
+altered_in (Some p) (Armed so_far) q = fault p.kind so_far q
 altered_in plan stage q = None
 
 abbrev pub altered : ScriptState → (q : Question) → Option (Answer q)
@@ -52,9 +52,9 @@ abbrev pub settled : Stage → Bool → Stage
 settled stage true = Struck
 settled stage false = stage
 
--- one value more was read in the plan's step; the count stays at the last value of a u64
+-- one value more was read in the plan's step
 abbrev pub read_more : Stage → Stage
-read_more (Armed reads) = Armed (min (reads + 1) (2 ^ 64 - 1))
+read_more (Armed so_far) = Armed (one_value_more so_far)
 read_more stage = stage
 
 -- the stage behind a question, and whether its answer was altered

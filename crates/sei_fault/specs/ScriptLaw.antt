@@ -7,13 +7,14 @@ use Rattle.sei_fault.specs.declared.plan.Planned.{Planned}
 use Rattle.sei_fault.specs.declared.script.Stage.{Stage}
 use Rattle.sei_fault.specs.declared.script.Stage.TheVariants as stage
 use Rattle.sei_fault.specs.Counts.Answered.{Honest, Struck}
+use Rattle.sei_fault.specs.Plans.{none_yet}
 use Rattle.sei_fault.specs.Question.{Question, Answer, honestly_to}
 use Rattle.sei_fault.specs.Question.Question.{Value, Written, Test, Often, Goes}
 use Rattle.sei_fault.specs.Script.{ScriptState, waited, begun, stage_at, altered_in, altered, read_more, stage_after, script_answer, script_next, fallen, script_counts}
 use Rattle.sei_fault.specs.Scripted.{function_core}
 
 -- arming strikes nothing
-waited_fallen : (b : Bool) → fallen (if b then stage.Armed 0 else stage.Waiting) ≡ 0
+waited_fallen : (b : Bool) → fallen (if b then stage.Armed none_yet else stage.Waiting) ≡ 0
 waited_fallen true = refl
 waited_fallen false = refl
 

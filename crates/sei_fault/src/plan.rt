@@ -1,7 +1,8 @@
 //! The faults that a script may plan: at which step, and of which kind.
-ghost use Rattle.std.specs.Prelude.{◌≡◌, ℕ};
+ghost use Rattle.std.specs.Prelude.{◌≡◌};
 ghost use Rattle.sei_fault.specs.declared.place.Site.{Site};
-ghost use Rattle.sei_fault.specs.Plans.{same_place, selects, fits, fault};
+ghost use Rattle.sei_fault.specs.declared.plan.StepCounts.{StepCounts};
+ghost use Rattle.sei_fault.specs.Plans.{same_place, selects, fits, none_yet, one_value_more, fault};
 ghost use Rattle.sei_fault.specs.Question.Question.{Value, Written, Test, Often, Goes};
 
 use super::{Act, Phase, Place, Site, Times};
@@ -76,21 +77,46 @@ pub enum Kind {
     Flip,
 }
 
+/// How many answers a step was given so far, of each kind of question whose answers a fault counts.
+#[derive(Clone, Copy)]
+pub(crate) struct StepCounts {
+    /// How many numbers were read. The count stays at its last value once it stands there.
+    pub(crate) value: u64,
+}
+
+impl StepCounts {
+    /// No answer was given yet.
+    pub(crate) fn new() -> StepCounts
+        ensures { result ≡ none_yet }
+    {
+        StepCounts { value: 0 }
+    }
+
+    /// One number more was read.
+    pub(crate) fn with_value(self) -> StepCounts
+        ensures { result ≡ one_value_more self }
+    {
+        StepCounts {
+            value: self.value.saturating_add(1),
+        }
+    }
+}
+
 impl Kind {
-    /// What stands for the number that is read, where it is altered. So many were read before it
-    /// in the step.
-    pub(crate) fn read(&self, reads: u64, honest: u64) -> Option<u64>
-        ensures { result ≡ fault self.now reads (Value honest) }
+    /// What stands for the number that is read, where it is altered, behind so many answers in the
+    /// step.
+    pub(crate) fn read(&self, so_far: StepCounts, honest: u64) -> Option<u64>
+        ensures { result ≡ fault self.now so_far (Value honest) }
     {
         match *self {
-            Kind::Read { nth, mask } if reads == nth && mask != 0 => Some(honest ^ mask),
+            Kind::Read { nth, mask } if so_far.value == nth && mask != 0 => Some(honest ^ mask),
             _ => None,
         }
     }
 
     /// What stands for the number that is stored, where it is altered.
     pub(crate) fn written(&self, honest: u64) -> Option<u64>
-        ensures { (reads : ℕ) → result ≡ fault self.now reads (Written honest) }
+        ensures { (so_far : StepCounts) → result ≡ fault self.now so_far (Written honest) }
     {
         match *self {
             Kind::Write { mask } if mask != 0 => Some(honest ^ mask),
@@ -100,7 +126,7 @@ impl Kind {
 
     /// What stands for the outcome of the comparison, where it is altered.
     pub(crate) fn test(&self, honest: bool) -> Option<bool>
-        ensures { (reads : ℕ) → result ≡ fault self.now reads (Test honest) }
+        ensures { (so_far : StepCounts) → result ≡ fault self.now so_far (Test honest) }
     {
         match *self {
             Kind::Flip => Some(!honest),
@@ -110,7 +136,7 @@ impl Kind {
 
     /// How often the act is done, where that is altered.
     pub(crate) fn times(&self) -> Option<Times>
-        ensures { (reads : ℕ) (site : Site) → result ≡ fault self.now reads (Often site) }
+        ensures { (so_far : StepCounts) (site : Site) → result ≡ fault self.now so_far (Often site) }
     {
         match *self {
             Kind::Skip => Some(Times::Skip),
@@ -121,7 +147,7 @@ impl Kind {
 
     /// Where the traversal goes on, where that is altered.
     pub(crate) fn next(&self, honest: Place) -> Option<Place>
-        ensures { (reads : ℕ) → result ≡ fault self.now reads (Goes honest) }
+        ensures { (so_far : StepCounts) → result ≡ fault self.now so_far (Goes honest) }
     {
         match *self {
             Kind::Jump { to } if !is_place(to, honest) => Some(to),

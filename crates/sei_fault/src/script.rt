@@ -7,6 +7,7 @@ ghost use Rattle.sei_fault.specs.Script.{script_begin, waited, begun, altered_in
 ghost use Rattle.sei_fault.specs.Scripted.{function_core};
 ghost use Rattle.sei_fault.specs.ScriptLaw.{script_lawful};
 
+use super::plan::StepCounts;
 use super::{Core, Place, Planned, Single, Site, Times};
 use std::marker::Model;
 
@@ -17,9 +18,8 @@ enum Stage {
     Waiting,
     /// Its step is being made.
     Armed {
-        /// How many numbers were read in the step. The count stays at its last value once it
-        /// stands there.
-        reads: u64,
+        /// How many answers were given in the step so far.
+        so_far: StepCounts,
     },
     /// It has struck.
     Struck,
@@ -67,7 +67,9 @@ fn waited(plan: Option<Planned>, site: Site) -> Stage
     ensures { result ≡ waited plan site }
 {
     match plan {
-        Some(plan) if plan.fits(site) => Stage::Armed { reads: 0 },
+        Some(plan) if plan.fits(site) => Stage::Armed {
+            so_far: StepCounts::new(),
+        },
         _ => Stage::Waiting,
     }
 }
@@ -111,9 +113,9 @@ impl ScriptCore {
     fn count_read(&mut self)
         ensures { self.new ≡ record self.old { stage = read_more self.old.stage } }
     {
-        if let Stage::Armed { reads } = self.stage {
+        if let Stage::Armed { so_far } = self.stage {
             self.stage = Stage::Armed {
-                reads: reads.saturating_add(1),
+                so_far: so_far.with_value(),
             };
         }
     }
@@ -123,7 +125,7 @@ impl ScriptCore {
         ensures { result ≡ altered_in self.now.plan self.now.stage (Value honest) }
     {
         match (self.plan, self.stage) {
-            (Some(plan), Stage::Armed { reads }) => plan.kind.read(reads, honest),
+            (Some(plan), Stage::Armed { so_far }) => plan.kind.read(so_far, honest),
             _ => None,
         }
     }
