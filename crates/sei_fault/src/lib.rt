@@ -5,6 +5,7 @@
 #![tactic(auto)]
 
 mod cause;
+mod count;
 mod fault_core;
 mod laws;
 mod place;

@@ -4,6 +4,7 @@ ghost use Rattle.sei_fault.specs.Counts.{counted};
 ghost use Rattle.sei_fault.specs.Scripted.{function_core};
 ghost use Rattle.sei_fault.specs.Plain.{plain_counts, plain_answer, plain_next, plain_lawful};
 
+use super::count::Count;
 use super::{Core, Place, Single, Site, Times};
 use std::marker::Model;
 
@@ -11,8 +12,8 @@ use std::marker::Model;
 /// was asked: no strike falls, and it tells that none can fall.
 #[derive(Drop)]
 pub struct PlainCore {
-    /// How many questions were asked. The count stays at its last value once it stands there.
-    asked: u128,
+    /// How many questions were asked.
+    count: Count,
 }
 
 impl Model for PlainCore {
@@ -20,7 +21,7 @@ impl Model for PlainCore {
 
     ghost Value = { ℕ };
 
-    ghost view = { λ core. core.asked };
+    ghost view = { λ core. core.count };
 }
 
 impl PlainCore {
@@ -28,14 +29,17 @@ impl PlainCore {
     pub fn new() -> PlainCore
         ensures { result ≡ 0 }
     {
-        PlainCore { asked: 0 }
+        PlainCore {
+            count: Count::new(),
+        }
     }
 
     /// Counts one question.
+    #[inline(always)]
     fn count(&mut self)
         ensures { self.new ≡ counted self.old }
     {
-        self.asked = self.asked.saturating_add(1);
+        self.count.count();
     }
 }
 
@@ -44,26 +48,31 @@ impl Core for PlainCore {
 
     ghost gives = { function_core plain_answer plain_next };
 
+    #[inline(always)]
     fn value(&mut self, honest: u64) -> u64 {
         self.count();
         honest
     }
 
+    #[inline(always)]
     fn written(&mut self, honest: u64) -> u64 {
         self.count();
         honest
     }
 
+    #[inline(always)]
     fn test(&mut self, honest: bool) -> bool {
         self.count();
         honest
     }
 
+    #[inline(always)]
     fn times(&mut self, _site: Site) -> Times {
         self.count();
         Times::Once
     }
 
+    #[inline(always)]
     fn next(&mut self, honest: Place) -> Place {
         self.count();
         honest
