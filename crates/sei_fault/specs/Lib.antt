@@ -8,4 +8,5 @@ pub mod ScriptLaw
 pub mod Scripted
 pub mod Strikes
 pub mod Tree
+pub mod Watching
 pub mod StruckRuns

@@ -1,14 +1,16 @@
 //! The core that carries out one planned fault.
-ghost use Rattle.std.specs.Prelude.{◌≡◌};
+ghost use Rattle.std.specs.Prelude.{◌≡◌, ◌-◌, ◌^◌, IsTrue, false};
 ghost use Rattle.sei_fault.specs.declared.place.Site.{Site};
 ghost use Rattle.sei_fault.specs.Counts.{IsAtMostOne, counted};
 ghost use Rattle.sei_fault.specs.Question.Question.{Value, Written, Test, Often, Goes};
 ghost use Rattle.sei_fault.specs.Script.{script_begin, waited, begun, altered_in, settled, read_more, script_counts, script_answer, script_next};
 ghost use Rattle.sei_fault.specs.Scripted.{function_core};
 ghost use Rattle.sei_fault.specs.ScriptLaw.{script_lawful};
+ghost use Rattle.sei_fault.specs.Watching.{is_armed, watches};
 
+use super::count::Count;
 use super::plan::StepCounts;
-use super::{Core, Place, Planned, Single, Site, Times};
+use super::{Act, Core, Place, Planned, Single, Site, Times};
 use std::marker::Model;
 
 /// Where a plan stands in its traversal.
@@ -31,10 +33,18 @@ enum Stage {
 /// it fits, and strikes there, at most once; all other answers are honest. The core tells that one
 /// strike can fall until its plan has struck, and none from then on; so without a plan it always
 /// tells one.
+///
+/// A question is a tick: one sum, and one test for 0. Only if the ticks turn to 0, a cold method
+/// looks at the plan and answers. While the plan's step is made, the ticks stand at their last
+/// value, so each question of that step turns them.
 #[derive(Drop)]
 pub struct ScriptCore {
-    /// How many questions were asked. The count stays at its last value once it stands there.
-    asked: u128,
+    /// The questions that `count` does not have. While the plan's step is made it has them all.
+    ticks: u64,
+    /// Whether the plan waits for its step, or its step is being made.
+    watching: bool,
+    /// The questions before the ticks.
+    count: Count,
     /// The planned fault.
     plan: Option<Planned>,
     /// Where the plan stands.
@@ -42,11 +52,15 @@ pub struct ScriptCore {
 }
 
 impl Model for ScriptCore {
+    ghost use Rattle.std.specs.Prelude.{◌≡◌};
     ghost use Rattle.sei_fault.specs.Script.{ScriptState};
+    ghost use Rattle.sei_fault.specs.Watching.{watches, asked_by, StandsAtEdge};
 
     ghost Value = { ScriptState };
 
-    ghost view = { λ core. record { asked = core.asked; plan = core.plan; stage = core.stage } };
+    ghost view = { λ core. record { asked = asked_by core.stage core.count core.ticks; plan = core.plan; stage = core.stage } };
+
+    ghost invariant = { λ core. (core.watching ≡ watches core.plan core.stage) × StandsAtEdge core.stage core.ticks };
 }
 
 /// Where a plan stands once the step at this site begins: it is armed where the site is the first
@@ -74,30 +88,94 @@ fn waited(plan: Option<Planned>, site: Site) -> Stage
     }
 }
 
+/// Whether the plan's step is being made.
+fn is_armed(stage: Stage) -> bool
+    ensures { result ≡ is_armed stage }
+{
+    matches!(stage, Stage::Armed { .. })
+}
+
+/// Whether a plan waits for its step, or its step is being made.
+fn watches(plan: Option<Planned>, stage: Stage) -> bool
+    ensures { result ≡ watches plan stage }
+{
+    match stage {
+        Stage::Waiting => plan.is_some(),
+        Stage::Armed { .. } => true,
+        Stage::Struck | Stage::Over => false,
+    }
+}
+
+/// Puts ticks that turned to 0 back to their last value. It is a cold call, since a store in its
+/// place would cost every tick.
+#[cold]
+#[inline(never)]
+fn put_back(ticks: &mut u64)
+    ensures { ticks.new ≡ 2 ^ 64 - 1 }
+{
+    *ticks = u64::MAX;
+}
+
 impl ScriptCore {
     /// No question was asked yet, and the plan, if there is one, waits for its step.
     pub fn new(plan: Option<Planned>) -> ScriptCore
         ensures { result ≡ script_begin plan }
     {
         ScriptCore {
-            asked: 0,
+            ticks: 0,
+            watching: plan.is_some(),
+            count: Count::new(),
             plan,
             stage: Stage::Waiting,
         }
     }
 
+    /// Counts one question by a tick, and answers that it did. Or the ticks stand at their last
+    /// value: then nothing changes, and the question is still to be counted.
+    #[inline(always)]
+    fn tick(&mut self) -> bool
+        ensures honest { IsTrue result → is_armed self.old.stage ≡ false }
+        ensures counted { IsTrue result → self.new ≡ record self.old { asked = counted self.old.asked } }
+        ensures same { result ≡ false → self.new ≡ self.old }
+    {
+        self.ticks = self.ticks.wrapping_add(1);
+        if self.ticks == 0 {
+            put_back(&mut self.ticks);
+            return false;
+        }
+        true
+    }
+
+    /// Goes on to a stage. The ticks are added to the count, and begin anew.
+    fn enter(&mut self, stage: Stage)
+        ensures { self.new ≡ record self.old { stage = stage } }
+    {
+        if !is_armed(self.stage) {
+            self.count.add(self.ticks);
+        }
+        self.ticks = if is_armed(stage) { u64::MAX } else { 0 };
+        self.watching = watches(self.plan, stage);
+        self.stage = stage;
+    }
+
+    /// Counts one question for which there is no tick.
+    #[cold]
+    #[inline(never)]
+    fn count_aside(&mut self)
+        ensures { self.new ≡ record self.old { asked = counted self.old.asked } }
+    {
+        self.count.count();
+        self.enter(self.stage);
+    }
+
     /// Counts one question.
+    #[inline(always)]
     fn count(&mut self)
         ensures { self.new ≡ record self.old { asked = counted self.old.asked } }
     {
-        self.asked = self.asked.saturating_add(1);
-    }
-
-    /// Begins the step at this site.
-    fn begin_step(&mut self, site: Site)
-        ensures { self.new ≡ record self.old { stage = begun self.old.plan self.old.stage site } }
-    {
-        self.stage = begun(self.plan, self.stage, site);
+        if !self.tick() {
+            self.count_aside();
+        }
     }
 
     /// Notes that the plan has struck, where it altered an answer.
@@ -105,7 +183,7 @@ impl ScriptCore {
         ensures { self.new ≡ record self.old { stage = settled self.old.stage is_altered } }
     {
         if is_altered {
-            self.stage = Stage::Struck;
+            self.enter(Stage::Struck);
         }
     }
 
@@ -169,6 +247,71 @@ impl ScriptCore {
             _ => None,
         }
     }
+
+    /// `value`, if there is no tick for it.
+    #[cold]
+    #[inline(never)]
+    fn watched_value(&mut self, honest: u64) -> u64
+        ensures { function_core script_answer script_next self.old (Value honest) result self.new }
+    {
+        self.count_aside();
+        let fault = self.read_fault(honest);
+        self.settle(fault.is_some());
+        self.count_read();
+        fault.unwrap_or(honest)
+    }
+
+    /// `written`, if there is no tick for it.
+    #[cold]
+    #[inline(never)]
+    fn watched_written(&mut self, honest: u64) -> u64
+        ensures { function_core script_answer script_next self.old (Written honest) result self.new }
+    {
+        self.count_aside();
+        let fault = self.written_fault(honest);
+        self.settle(fault.is_some());
+        fault.unwrap_or(honest)
+    }
+
+    /// `test`, if there is no tick for it.
+    #[cold]
+    #[inline(never)]
+    fn watched_test(&mut self, honest: bool) -> bool
+        ensures { function_core script_answer script_next self.old (Test honest) result self.new }
+    {
+        self.count_aside();
+        let fault = self.test_fault(honest);
+        self.settle(fault.is_some());
+        fault.unwrap_or(honest)
+    }
+
+    /// `times`, while the plan waits or its step is made. The site is passed by its parts, which stay
+    /// in registers: passed whole, it would be stored at each step, watched or not.
+    #[cold]
+    #[inline(never)]
+    fn watched_times(&mut self, place: Place, act: Act) -> Times
+        ensures { let site : Site = record { place = place; act = act } in
+            function_core script_answer script_next self.old (Often site) result self.new }
+    {
+        let site = Site { place, act };
+        self.count();
+        self.enter(begun(self.plan, self.stage, site));
+        let fault = self.times_fault();
+        self.settle(fault.is_some());
+        fault.unwrap_or(Times::Once)
+    }
+
+    /// `next`, if there is no tick for it.
+    #[cold]
+    #[inline(never)]
+    fn watched_next(&mut self, honest: Place) -> Place
+        ensures { function_core script_answer script_next self.old (Goes honest) result self.new }
+    {
+        self.count_aside();
+        let fault = self.next_fault(honest);
+        self.settle(fault.is_some());
+        fault.unwrap_or(honest)
+    }
 }
 
 impl Core for ScriptCore {
@@ -176,46 +319,50 @@ impl Core for ScriptCore {
 
     ghost gives = { function_core script_answer script_next };
 
-    #[inline]
+    #[inline(always)]
     fn value(&mut self, honest: u64) -> u64 {
-        self.count();
-        let fault = self.read_fault(honest);
-        self.settle(fault.is_some());
-        self.count_read();
-        fault.unwrap_or(honest)
+        if self.tick() {
+            honest
+        } else {
+            self.watched_value(honest)
+        }
     }
 
-    #[inline]
+    #[inline(always)]
     fn written(&mut self, honest: u64) -> u64 {
-        self.count();
-        let fault = self.written_fault(honest);
-        self.settle(fault.is_some());
-        fault.unwrap_or(honest)
+        if self.tick() {
+            honest
+        } else {
+            self.watched_written(honest)
+        }
     }
 
-    #[inline]
+    #[inline(always)]
     fn test(&mut self, honest: bool) -> bool {
-        self.count();
-        let fault = self.test_fault(honest);
-        self.settle(fault.is_some());
-        fault.unwrap_or(honest)
+        if self.tick() {
+            honest
+        } else {
+            self.watched_test(honest)
+        }
     }
 
-    #[inline]
+    #[inline(always)]
     fn times(&mut self, site: Site) -> Times {
-        self.count();
-        self.begin_step(site);
-        let fault = self.times_fault();
-        self.settle(fault.is_some());
-        fault.unwrap_or(Times::Once)
+        if self.watching {
+            self.watched_times(site.place, site.act)
+        } else {
+            self.count();
+            Times::Once
+        }
     }
 
-    #[inline]
+    #[inline(always)]
     fn next(&mut self, honest: Place) -> Place {
-        self.count();
-        let fault = self.next_fault(honest);
-        self.settle(fault.is_some());
-        fault.unwrap_or(honest)
+        if self.tick() {
+            honest
+        } else {
+            self.watched_next(honest)
+        }
     }
 
     ghost lawful = { script_lawful };
