@@ -1,5 +1,6 @@
 pub mod Bound
 pub mod Faults
+pub mod PublicChains
 pub mod Runs
 pub mod Scripted
 pub mod Strikes

@@ -1,3 +1,4 @@
+pub mod Chain
 pub mod Counts
 pub mod Phases
 pub mod Plain
