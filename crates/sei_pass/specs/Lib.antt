@@ -4,3 +4,5 @@ pub mod State
 pub mod Setting
 pub mod Frames
 pub mod Steps
+pub mod Arms
+pub mod Loop

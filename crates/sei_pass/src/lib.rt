@@ -6,6 +6,7 @@ mod acts;
 mod answers;
 mod frame;
 mod given;
+mod loops;
 mod memory;
 mod output;
 mod pass;
@@ -18,6 +19,7 @@ mod tests;
 
 pub use frame::PassStep;
 pub use given::{Sealed, Which};
+pub use loops::{Exit, Ran};
 pub use pass::Pass;
 pub use slots::Slots;
 pub use spaces::{PassSpace, budget, bytes_room, input_room, log_room, output_room};

@@ -1,0 +1,61 @@
+-- What a loop over the steps of a pass does: whole steps that lead on in the pass, and a part of one more.
+use Rattle.std.specs.Prelude.{◌≡◌, ℕ, ◌+◌, ◌<◌, ◌^◌, ⊤, Some, slice_get}
+use Rattle.sei_fault.specs.declared.place.Phase.{Phase}
+use Rattle.sei_fault.specs.declared.place.Place.{Place}
+use Rattle.sei_fault.specs.Chain.{Chain}
+use Rattle.sei_fault.specs.Question.{Question, Answer}
+use Rattle.sei_fault.specs.Question.Question.{Goes}
+use Rattle.sei_fault.specs.Tree.{Runs}
+use Rattle.sei_stmt.specs.declared.stmt.Stmt.{Stmt}
+use Rattle.sei_stmt.specs.Machine.{Machine, Setting}
+use Rattle.sei_pass.specs.declared.loops.Asked.{Asked}
+use Rattle.sei_pass.specs.declared.loops.Asked.TheVariants as asked
+use Rattle.sei_pass.specs.declared.loops.Exit.{Exit}
+use Rattle.sei_pass.specs.declared.loops.Exit.TheVariants.{At, Halted, Bad, Struck, Alone}
+use Rattle.sei_pass.specs.Arms.{arm_tree}
+
+abbrev pub in_pass : Phase → ℕ → Place
+in_pass phase index = record { phase = phase; index = index }
+
+-- where a pass stands, and its core
+pub record Here (S : Type 0) : Type 0 where
+  pub machine : Machine
+  pub index : ℕ
+  pub core : S
+
+-- the statement that stands here was asked for and ended so, with this machine and core
+pub record Asks {S : Type 0} (gives : S → (q : Question) → Answer q → S → Type 0) (g : Setting) (phase : Phase) (x : Here S) (end : Asked) (m : Machine) (core : S) : Type 0 where
+  pub statement : Stmt
+  pub stands : slice_get g.statements x.index ≡ Some statement
+  pub room : x.machine.made < g.budget
+  pub runs : Runs gives (arm_tree g phase x.index x.machine statement) x.core core (record { machine = m; asked = end })
+
+-- one whole step that leads on in the pass
+pub record Leads {S : Type 0} (gives : S → (q : Question) → Answer q → S → Type 0) (g : Setting) (phase : Phase) (x y : Here S) : Type 0 where
+  pub to : ℕ
+  pub then : S
+  pub asks : Asks gives g phase x (asked.Next to) y.machine then
+  pub goes : gives then (Goes (in_pass phase to)) (in_pass phase y.index) y.core
+
+-- what was done of the step that begins here if the loop ended so
+abbrev pub Leaves : {S : Type 0} → (S → (q : Question) → Answer q → S → Type 0) → Setting → Phase → Here S → Exit → Machine → S → Type 0
+Leaves gives g phase x (At p) m core = (to : ℕ) × (then : _) × Asks gives g phase x (asked.Next to) m then × gives then (Goes (in_pass phase to)) p core
+Leaves gives g phase x Halted m core = Asks gives g phase x asked.Halted m core
+Leaves gives g phase x (Bad cause) m core = Asks gives g phase x (asked.Bad cause) m core
+Leaves gives g phase x (Struck act times) m core = Asks gives g phase x (asked.Struck act times) m core
+Leaves gives g phase x Alone m core = (m ≡ x.machine) × (core ≡ x.core)
+
+-- so many whole steps, and then a part of the one at this index
+pub record RunsLoop {S : Type 0} (gives : S → (q : Question) → Answer q → S → Type 0) (g : Setting) (phase : Phase) (before index : ℕ) (x : Here S) (exit : Exit) (m : Machine) (core : S) : Type 0 where
+  pub machine : Machine
+  pub then : S
+  pub chain : Chain (Leads gives g phase) before x (record { machine = machine; index = index; core = then })
+  pub leaves : Leaves gives g phase (record { machine = machine; index = index; core = then }) exit m core
+
+-- a statement that was struck has an index after it
+abbrev pub HasIndexAfter : Exit → ℕ → Type 0
+HasIndexAfter (At p) index = ⊤
+HasIndexAfter Halted index = ⊤
+HasIndexAfter (Bad cause) index = ⊤
+HasIndexAfter (Struck act times) index = index + 1 < 2 ^ 64
+HasIndexAfter Alone index = ⊤
