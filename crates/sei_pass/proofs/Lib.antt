@@ -3,3 +3,5 @@ pub mod ParseLaws
 pub mod RenderLaws
 pub mod RoomLaws
 pub mod StepLaws
+pub mod LoopLaws
+pub mod LoopRooms

@@ -5,4 +5,5 @@ pub mod Setting
 pub mod Frames
 pub mod Steps
 pub mod Arms
+pub mod Turns
 pub mod Loop

@@ -10,6 +10,8 @@ use Rattle.sei_stmt.specs.declared.stmt.Stmt.{Stmt}
 use Rattle.sei_stmt.specs.Machine.{Machine, Setting}
 use Rattle.sei_pass.specs.declared.loops.Asked.{Asked}
 use Rattle.sei_pass.specs.declared.loops.Asked.TheVariants as asked
+use Rattle.sei_pass.specs.declared.loops.Led.{Led}
+use Rattle.sei_pass.specs.declared.loops.Led.TheVariants.{On, Out}
 use Rattle.sei_pass.specs.declared.loops.Exit.{Exit}
 use Rattle.sei_pass.specs.declared.loops.Exit.TheVariants.{At, Halted, Bad, Struck, Alone}
 use Rattle.sei_pass.specs.Arms.{arm_tree}
@@ -45,6 +47,11 @@ Leaves gives g phase x (Bad cause) m core = Asks gives g phase x (asked.Bad caus
 Leaves gives g phase x (Struck act times) m core = Asks gives g phase x (asked.Struck act times) m core
 Leaves gives g phase x Alone m core = (m ≡ x.machine) × (core ≡ x.core)
 
+-- what was done of the step that begins here if it led there
+abbrev pub LeadsOrLeaves : {S : Type 0} → (S → (q : Question) → Answer q → S → Type 0) → Setting → Phase → Here S → Led → Machine → S → Type 0
+LeadsOrLeaves gives g phase x (On index) m core = Leads gives g phase x (record { machine = m; index = index; core = core })
+LeadsOrLeaves gives g phase x (Out exit) m core = Leaves gives g phase x exit m core
+
 -- so many whole steps, and then a part of the one at this index
 pub record RunsLoop {S : Type 0} (gives : S → (q : Question) → Answer q → S → Type 0) (g : Setting) (phase : Phase) (before index : ℕ) (x : Here S) (exit : Exit) (m : Machine) (core : S) : Type 0 where
   pub machine : Machine
@@ -59,3 +66,8 @@ HasIndexAfter Halted index = ⊤
 HasIndexAfter (Bad cause) index = ⊤
 HasIndexAfter (Struck act times) index = index + 1 < 2 ^ 64
 HasIndexAfter Alone index = ⊤
+
+-- P holds of the exit, if it led out of the loop
+abbrev pub IfOut : Led → (Exit → Type 0) → Type 0
+IfOut (On index) P = ⊤
+IfOut (Out exit) P = P exit

@@ -4,6 +4,7 @@
 
 mod acts;
 mod answers;
+mod arms;
 mod frame;
 mod given;
 mod loops;

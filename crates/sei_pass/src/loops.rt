@@ -1,5 +1,16 @@
 //! Many steps of a pass.
-use sei_fault::{AbortCause, Act, Place, Times};
+ghost use Rattle.std.specs.Prelude.{◌≡◌, ◌+◌, ◌<◌, ◌^◌};
+ghost use Rattle.sei_log.specs.declared.notes.Notes.{Notes};
+ghost use Rattle.sei_stmt.specs.Machine.{Setting};
+ghost use Rattle.sei_words.specs.Loan.{words_of, place_of};
+ghost use Rattle.sei_pass.specs.Frames.{machine_at};
+ghost use Rattle.sei_pass.specs.Loop.{LeadsOrLeaves, RunsLoop, HasIndexAfter, IfOut};
+
+use crate::frame::Frame;
+use sei_fault::{AbortCause, Act, Core, Phase, Place, Times};
+use sei_log::WriteLog;
+use sei_stmt::Table;
+use sei_words::Lent;
 
 /// How a statement ended whose step was asked for first.
 #[derive(Clone, Copy)]
@@ -40,4 +51,95 @@ pub struct Ran {
     pub index: u64,
     /// How it left that step.
     pub exit: Exit,
+}
+
+/// Where one step of the loop led.
+#[derive(Clone, Copy)]
+pub enum Led {
+    /// On, to the statement with this index.
+    On(u64),
+    /// Out of the loop.
+    Out(Exit),
+}
+
+impl Frame {
+    /// Makes the step at `index`, as far as the loop makes it.
+    #[inline(always)]
+    fn lead<L: Lent, K: Core>(
+        &mut self,
+        phase: Phase,
+        table: &Table,
+        lent: &mut L,
+        log: &mut WriteLog,
+        core: &mut K,
+        index: u64,
+    ) -> Led
+        requires made { self.old.made + 1 < 2 ^ 64 }
+        ensures led { (g : Setting) (notes : Notes) → g.statements ≡ table.now → self.old.made < g.budget →
+            LeadsOrLeaves K.gives g phase
+            (record { machine = machine_at self.old (words_of (L.loan lent.old)) log.old notes; index = index; core = core.old })
+            result (machine_at self.new (words_of (L.loan lent.new)) log.new notes) core.new }
+        ensures after { IfOut result (λ exit. HasIndexAfter exit index) }
+        ensures lent { place_of (L.loan lent.new) ≡ place_of (L.loan lent.old) }
+    {
+        let Some(statement) = table.get(index) else {
+            return Led::Out(Exit::Alone);
+        };
+        match self.ask(statement, phase, index, lent, log, core) {
+            Asked::Next(to) => {
+                let place = core.next(Place { phase, index: to });
+                if place.phase == phase {
+                    Led::On(place.index)
+                } else {
+                    Led::Out(Exit::At(place))
+                }
+            }
+            Asked::Halted => Led::Out(Exit::Halted),
+            Asked::Bad(cause) => Led::Out(Exit::Bad(cause)),
+            Asked::Struck(act, times) => Led::Out(Exit::Struck(act, times)),
+            Asked::Alone => Led::Out(Exit::Alone),
+        }
+    }
+
+    /// Makes the steps of the phase from the index `from`, up to the first that does not lead on in
+    /// it, and makes of that one what can be made in a loop. At most `budget` statements are made in
+    /// the whole pass.
+    #[inline(always)]
+    pub fn run<L: Lent, K: Core>(
+        &mut self,
+        phase: Phase,
+        table: &Table,
+        budget: u64,
+        lent: &mut L,
+        log: &mut WriteLog,
+        core: &mut K,
+        from: u64,
+    ) -> Ran
+        ensures ran { (g : Setting) (notes : Notes) → g.statements ≡ table.now → g.budget ≡ budget →
+            RunsLoop K.gives g phase result.before result.index
+            (record { machine = machine_at self.old (words_of (L.loan lent.old)) log.old notes; index = from; core = core.old })
+            result.exit (machine_at self.new (words_of (L.loan lent.new)) log.new notes) core.new }
+        ensures after { HasIndexAfter result.exit result.index }
+        ensures lent { place_of (L.loan lent.new) ≡ place_of (L.loan lent.old) }
+    {
+        let first = self.made;
+        let mut index = from;
+        for made in first..budget {
+            match self.lead(phase, table, lent, log, core, index) {
+                Led::On(to) => index = to,
+                Led::Out(exit) => {
+                    return Ran {
+                        before: made - first,
+                        index,
+                        exit,
+                    };
+                }
+            }
+        }
+        Ran {
+            before: self.made - first,
+            index,
+            exit: Exit::Alone,
+        }
+    }
 }

@@ -3,7 +3,10 @@ ghost use Rattle.std.specs.Prelude.{◌≡◌, ℕ, ◌+◌, ◌≤◌, ◌<◌,
 ghost use Rattle.std.specs.Option.{option_map};
 ghost use Rattle.mc_model.specs.Server.{IsValid};
 ghost use Rattle.sei_stmt.specs.Handling.{parsed_words};
+ghost use Rattle.sei_log.specs.declared.notes.Notes.{Notes};
+ghost use Rattle.sei_stmt.specs.Machine.{Setting};
 ghost use Rattle.sei_pass.specs.Acts.{act_of};
+ghost use Rattle.sei_pass.specs.Loop.{RunsLoop, HasIndexAfter};
 ghost use Rattle.sei_pass.specs.Spaces.{pass_space};
 ghost use Rattle.sei_pass.specs.State.{IsPass, new_pass};
 ghost use Rattle.sei_words.specs.Loan.{words_of, bucket_of, place_of, IsOf};
@@ -14,15 +17,16 @@ ghost use Rattle.sei_pass.specs.Steps.{machine_of, Stepped};
 
 use crate::frame::{Frame, PassStep};
 use crate::given::{Sealed, Which};
+use crate::loops::Ran;
 use crate::slots::Slots;
 use crate::spaces::PassSpace;
 use mc_model::Geometry;
 use sei_code::{Memory, WordList};
-use sei_fault::{Act, Core};
+use sei_fault::{Act, Core, Phase};
 use sei_log::{Notes, WriteLog};
 use sei_outside::Clock;
 use sei_stmt::Handler;
-use sei_words::{NoBucket, Words};
+use sei_words::{Lent, NoBucket, Words};
 use std::alloc::Global;
 use std::marker::Model;
 
@@ -204,6 +208,41 @@ impl Pass {
             core,
             clock,
             index,
+        )
+    }
+
+    /// Makes the steps of the phase from the index `from`, as long as each leads on in it, and of the
+    /// next one what can be made in a loop: how it left that one says what is left to do of it. The
+    /// statements are those of the table, with each of their effects asked of `core`.
+    #[inline(never)]
+    pub fn run_on<H: Handler, L: Lent, K: Core>(
+        &mut self,
+        phase: Phase,
+        hands: &H,
+        lent: &mut L,
+        log: &mut WriteLog,
+        core: &mut K,
+        from: u64,
+    ) -> Ran
+        ensures ran { (g : Setting) (notes : Notes) → g.statements ≡ H.statements hands.now → g.budget ≡ self.old.space.budget →
+            RunsLoop K.gives g phase result.before result.index
+            (record { machine = machine_of self.old (words_of (L.loan lent.old)) log.old notes; index = from; core = core.old })
+            result.exit (machine_of self.new (words_of (L.loan lent.new)) log.new notes) core.new }
+        ensures after { HasIndexAfter result.exit result.index }
+        ensures lent { place_of (L.loan lent.new) ≡ place_of (L.loan lent.old) }
+        ensures space { self.new.space ≡ self.old.space }
+        ensures pass { IsPass self.new }
+        ensures log { log.new.room ≡ log.old.room }
+        ensures log_fits { length log.old.items ≤ log.old.room → length log.new.items ≤ log.new.room }
+    {
+        self.frame.run(
+            phase,
+            hands.table(),
+            self.space.budget,
+            lent,
+            log,
+            core,
+            from,
         )
     }
 }
