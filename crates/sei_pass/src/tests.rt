@@ -5,11 +5,13 @@ ghost use Rattle.sei_words.specs.Exits.{lent_at};
 use super::*;
 use mc_model::Geometry;
 use sei_code::{Buffer, Coded, Rendered, WordList, message_code};
-use sei_fault::{AbortCause, Act, PlainCore};
+use sei_fault::{
+    AbortCause, Act, Core, Kind, Phase, PlainCore, Planned, ScriptCore, Select, Times,
+};
 use sei_log::{Notes, WriteLog};
 use sei_outside::SetClock;
 use sei_stmt::{Handler, Stmt, Table};
-use sei_words::Words;
+use sei_words::{NoBucket, Words};
 use std::test::Fail;
 
 const SMALL: Geometry = Geometry {
@@ -199,5 +201,99 @@ fn a_pass_ends_with_its_budget(rt: HostRuntime) -> Result<(), Fail> {
     }
     let step = make(&mut pass, &service, None, &mut log, &mut notes, 0);
     assert_eq!(rt; step, PassStep::Bad(AbortCause::Budget));
+    Ok(())
+}
+
+/// A run of the first pass from its first statement, where no bucket is lent.
+fn run<K: Core>(pass: &mut Pass, service: &Service, log: &mut WriteLog, core: &mut K) -> Ran {
+    pass.run_on(Phase::First, service, &mut NoBucket, log, core, 0)
+}
+
+/// Word 1 becomes 5 and is logged once. The loop jumps over the last statement but one.
+#[test]
+fn a_run_goes_on_to_halt(rt: HostRuntime) -> Result<(), Fail> {
+    let alloc = rt.alloc();
+    let service = serving(
+        rt,
+        &[
+            Stmt::Const { to: 1, number: 1 },
+            Stmt::Const { to: 2, number: 5 },
+            Stmt::Store {
+                address: 1,
+                from: 2,
+            },
+            Stmt::Load { to: 3, address: 1 },
+            Stmt::JumpEq {
+                left: 3,
+                right: 2,
+                offset: 1,
+            },
+            Stmt::Parse,
+            Stmt::Halt,
+        ],
+    )?;
+    let mut pass = Pass::new(alloc, &SMALL)?;
+    let mut words = Words::new(alloc, &SMALL, 0)?;
+    let mut log = WriteLog::new(alloc, 4)?;
+    let mut core = PlainCore::new();
+    let ran = pass.run_on(Phase::First, &service, &mut words, &mut log, &mut core, 0);
+    assert_eq!(rt; ran.before, 5);
+    assert_eq!(rt; ran.index, 6);
+    assert!(rt; matches!(ran.exit, Exit::Halted));
+    assert_eq!(rt; words.get(1), Some(5));
+    assert_eq!(rt; log.len(), 1);
+    Ok(())
+}
+
+/// A rare statement is left as it is, and so is each one once the budget is spent.
+#[test]
+fn a_run_leaves_what_is_made_by_itself(rt: HostRuntime) -> Result<(), Fail> {
+    let alloc = rt.alloc();
+    let rare = serving(
+        rt,
+        &[
+            Stmt::Const { to: 1, number: 1 },
+            Stmt::Now { to: 2 },
+            Stmt::Halt,
+        ],
+    )?;
+    let endless = serving(rt, &[Stmt::Jump { offset: -1 }, Stmt::Halt])?;
+    for (service, before, index) in [(&rare, 1, 1), (&endless, 2700, 0)] {
+        let mut pass = Pass::new(alloc, &SMALL)?;
+        let mut log = WriteLog::new(alloc, 4)?;
+        let ran = run(&mut pass, service, &mut log, &mut PlainCore::new());
+        assert_eq!(rt; ran.before, before);
+        assert_eq!(rt; ran.index, index);
+        assert!(rt; matches!(ran.exit, Exit::Alone));
+    }
+    Ok(())
+}
+
+/// The store at word 9 is skipped by plan, so it is left before it finds no bucket.
+#[test]
+fn a_run_leaves_a_struck_statement(rt: HostRuntime) -> Result<(), Fail> {
+    let alloc = rt.alloc();
+    let service = serving(
+        rt,
+        &[
+            Stmt::Const { to: 1, number: 9 },
+            Stmt::Store {
+                address: 1,
+                from: 1,
+            },
+            Stmt::Halt,
+        ],
+    )?;
+    let mut pass = Pass::new(alloc, &SMALL)?;
+    let mut log = WriteLog::new(alloc, 4)?;
+    let mut core = ScriptCore::new(Some(Planned {
+        phase: Phase::First,
+        select: Select::Store(9),
+        kind: Kind::Skip,
+    }));
+    let ran = run(&mut pass, &service, &mut log, &mut core);
+    assert_eq!(rt; ran.before, 1);
+    assert_eq!(rt; ran.index, 1);
+    assert!(rt; matches!(ran.exit, Exit::Struck(Act::Store(9), Times::Skip)));
     Ok(())
 }
