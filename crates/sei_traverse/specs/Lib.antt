@@ -17,3 +17,4 @@ pub mod Struck
 pub mod Facts
 pub mod Bounds
 pub mod Wanting
+pub mod Running

@@ -1,0 +1,64 @@
+-- Many steps of a traversal.
+use Rattle.std.specs.Prelude.{◌≡◌, ℕ, ◌-◌, ◌^◌, ◌≤◌, List, Option, min}
+use Rattle.sei_fault.specs.Chain.{Chain}
+use Rattle.sei_fault.specs.Counts.{Counts}
+use Rattle.sei_fault.specs.Question.{Question, Answer}
+use Rattle.sei_fault.specs.Tree.{Tree, bound}
+use Rattle.sei_fault.specs.Tree.Tree.{Done as Ended}
+use Rattle.sei_words.specs.Loan.{words_of, bucket_of, place_of}
+use Rattle.sei_words.specs.Words.{BucketWords}
+use Rattle.sei_pass.specs.declared.loops.Exit.{Exit}
+use Rattle.sei_pass.specs.declared.loops.Exit.TheVariants.{At, Halted, Bad, Struck, Alone}
+use Rattle.sei_traverse.specs.declared.turned.State.TheVariants.{Went}
+use Rattle.sei_traverse.specs.declared.turned.Turned.{Turned}
+use Rattle.sei_traverse.specs.declared.turned.Want.TheVariants.{Nothing}
+use Rattle.sei_traverse.specs.declared.walk.Walk.{Walk}
+use Rattle.sei_traverse.specs.Acts.{at, closes}
+use Rattle.sei_traverse.specs.Noting.{NotesTime}
+use Rattle.sei_traverse.specs.Service.{Given, Service, given_of}
+use Rattle.sei_traverse.specs.State.{TraversalState, IsTraversal, one_more, is_running}
+use Rattle.sei_traverse.specs.Step.{Turn, turn, aborted, next_phase, arrival, goes_on, turn_as, turn_tree, TimedTwice}
+
+-- a traversal, what is lent to it, and its core
+pub record On (S : Type 0) : Type 0 where
+  pub traversal : TraversalState
+  pub lent : Option BucketWords
+  pub core : S
+
+abbrev pub on : {S : Type 0} → TraversalState → Option BucketWords → S → On S
+on traversal lent core = record { traversal = traversal; lent = lent; core = core }
+
+-- one step of the definition, whatever the core answers, which turned out so
+pub record Makes {S : Type 0} (gives : S → (q : Question) → Answer q → S → Type 0) (counts : S → Counts) (told : Option ℕ) (service : Service) (input : List ℕ) (x y : On S) (t : Turned) : Type 0 where
+  pub turned : TimedTwice gives told (λ now later. turn_tree (given_of service input x.traversal.space (bucket_of x.lent)) now later x.traversal.walk (words_of x.lent)) x.core y.core (turn y.traversal.walk (words_of y.lent) t.state)
+  pub want : t.want ≡ y.traversal.walk.want
+  pub lent : place_of y.lent ≡ place_of x.lent
+  pub sealed : y.traversal.walk.sealed ≡ x.traversal.walk.sealed
+  pub space : y.traversal.space ≡ x.traversal.space
+  pub steps : y.traversal.steps ≡ one_more x.traversal.steps
+  pub running : y.traversal.running ≡ is_running t.state
+  -- logs, outputs and copies keep their rooms
+  pub rooms : IsTraversal y.traversal
+  -- what is noted of the time is the clock's answer
+  pub noted : NotesTime told x.traversal.walk.notes.now y.traversal.walk.notes.now
+  -- no question is taken back, and no strike; at its last value the count of questions stands still
+  pub asked : min (counts x.core).asked (2 ^ 128 - 1) ≤ (counts y.core).asked
+  pub struck : (counts x.core).struck ≤ (counts y.core).struck
+
+-- one that wants nothing, and the traversal goes on
+abbrev pub Quiet : {S : Type 0} → (S → (q : Question) → Answer q → S → Type 0) → (S → Counts) → Option ℕ → Service → List ℕ → On S → On S → Type 0
+Quiet gives counts told service input x y = Makes gives counts told service input x y (record { want = Nothing; state = Went })
+
+-- n quiet steps, and one more that turned out so
+pub record RunsOn {S : Type 0} (gives : S → (q : Question) → Answer q → S → Type 0) (counts : S → Counts) (told : Option ℕ) (service : Service) (input : List ℕ) (n : ℕ) (x z : On S) (t : Turned) : Type 0 where
+  pub last : On S
+  pub chain : Chain (Quiet gives counts told service input) n x last
+  pub makes : Makes gives counts told service input last z t
+
+-- what is left to do of a step of a pass if the loop over its steps left it so. The place is still that of the step
+abbrev pub rest : Given → ℕ → ℕ → Walk → List ℕ → Exit → Tree Turn
+rest g now later w words (At p) = Ended (turn (record w { place = p }) words (arrival w.place.phase p w.gate.done))
+rest g now later w words Halted = bound (closes w.place.phase w words Nothing (at (next_phase w.place.phase) 0)) goes_on
+rest g now later w words (Bad cause) = Ended (turn w words (aborted w.place.phase cause))
+rest g now later w words (Struck act times) = turn_as g now later w words act times
+rest g now later w words Alone = turn_tree g now later w words
