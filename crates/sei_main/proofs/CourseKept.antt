@@ -37,7 +37,7 @@ use Rattle.sei_main.proofs.HandsTrusted.{IsSealedCall}
 use Rattle.sei_main.proofs.ScriptedRuns.{one_falls, unplanned, unplanned_stays}
 use Rattle.sei_main.proofs.TableLaws.{IsGood}
 use Rattle.sei_main.proofs.Turns.{ended_stays}
-use Rattle.sei_main.proofs.WalkKept.{FitsIn}
+use Rattle.sei_traverse.proofs.PublicWalkKept.{FitsIn}
 
 one_more_is : (n : ℕ) → suc n < 2 ^ 64 → one_more n ≡ suc n
 one_more_is n small = omega (arith, small)

@@ -1,5 +1,5 @@
 -- One step of the traversal of a call under a planned fault: what is known of it is known behind it.
-use Rattle.std.proofs.Common.{◌≡◌, ◌⊎◌, inr, ℕ, List, [], ◌∷◌, length, true, Option, Some, None, refl, sym, ap, ◌∙◌, subst, arith}
+use Rattle.std.proofs.Common.{◌≡◌, ◌⊎◌, inr, ℕ, List, true, Option, Some, None, refl, sym, ap, ◌∙◌, subst, arith}
 use Rattle.mc_model.specs.declared.geometry.Geometry.{Geometry}
 use Rattle.sei_code.specs.Coded.{sealed as seal}
 use Rattle.sei_code.specs.declared.coded.Coded.{Coded}
@@ -9,7 +9,7 @@ use Rattle.sei_fault.specs.Script.{ScriptState, script_begin, script_answer, scr
 use Rattle.sei_fault.specs.ScriptLaw.{script_lawful}
 use Rattle.sei_fault.specs.Scripted.{function_core}
 use Rattle.sei_fault.proofs.Runs.{always}
-use Rattle.sei_words.specs.Loan.{words_of, bucket_of, place_of}
+use Rattle.sei_words.specs.Loan.{words_of, bucket_of}
 use Rattle.sei_words.specs.Words.{BucketWords}
 use Rattle.sei_traverse.specs.declared.walk.Walk.{Walk}
 use Rattle.sei_traverse.specs.Bounds.{StepsWithin, StepsAfter}
@@ -30,7 +30,8 @@ use Rattle.sei_main.specs.Course.{turned}
 use Rattle.sei_hand.specs.Requests.{parsed_call}
 use Rattle.sei_main.specs.Errands.{service_for}
 use Rattle.sei_main.proofs.ScriptedRuns.{runs_scripted, one_falls}
-use Rattle.sei_main.proofs.WalkKept.{KeepsWalk, turn_kept}
+use Rattle.sei_traverse.proofs.PublicLoans.{left_in, left_place, left_words}
+use Rattle.sei_traverse.proofs.PublicWalkKept.{KeepsWalk, turn_kept}
 
 -- the traversal on this walk, behind so many steps
 abbrev pub traversal : Geometry → Walk → ℕ → TraversalState
@@ -39,24 +40,6 @@ traversal g w steps = record { walk = w; space = pass_space g; steps = steps; ru
 -- no question was asked, and no strike fell
 abbrev pub none_asked : Counts
 none_asked = script_counts (script_begin None)
-
--- what is left of a loan
-abbrev pub left_in : Option BucketWords → List ℕ → Option BucketWords
-left_in None words = None
-left_in (Some b) words = Some (record b { words = words })
-
-pub left_place : (loan : Option BucketWords) (words : List ℕ) → place_of (left_in loan words) ≡ place_of loan
-left_place None words = refl
-left_place (Some b) words = refl
-
-none_long : (words : List ℕ) → length words ≡ 0 → [] ≡ words
-none_long [] e = refl
-none_long (x ∷ xs) e = absurd (omega (arith, e))
-
--- its words, where they are as many as those that were lent
-pub left_words : (loan : Option BucketWords) (words : List ℕ) → length words ≡ length (words_of loan) → words_of (left_in loan words) ≡ words
-left_words None words e = none_long words e
-left_words (Some b) words e = refl
 
 -- the clock of an errand of that time tells the same
 tells : (now : ℕ) (o : Option ℕ) → o ≡ Some now → TellsAs o (Some now)

@@ -31,8 +31,6 @@ pub mod TableCalls
 pub mod Turns
 pub mod HandsTrusted
 pub mod ScriptedRuns
-pub mod WordsLast
-pub mod WalkKept
 pub mod CourseStep
 pub mod CourseAnswers
 pub mod CourseShape

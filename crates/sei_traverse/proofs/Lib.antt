@@ -45,3 +45,8 @@ pub mod NotingLaws
 pub mod CountLaws
 pub mod WantingLaws
 pub mod SmallNotes
+pub mod WordsLast
+pub mod PublicWalkKept
+pub mod PublicLoans
+pub mod Making
+pub mod Lift

@@ -43,7 +43,7 @@ use Rattle.sei_traverse.specs.Service.{Given, setting_in}
 use Rattle.sei_traverse.specs.Step.{Turn, act_in, act_tree, site_of, skipped, goes, goes_on, once, unless_ended, twice, turn_as, turn_at, turn_tree}
 use Rattle.sei_traverse.specs.Walks.{IsWalk}
 use Rattle.sei_traverse.proofs.StepsBound.{always_bound, always_any}
-use Rattle.sei_main.proofs.WordsLast.{Lasts, lasts}
+use Rattle.sei_traverse.proofs.WordsLast.{Lasts, lasts}
 
 -- both hold of each end, and more follows
 always_both : {A : Type 0} (P Q R : A → Type 0) (t : Tree A) → ((x : A) → P x → Q x → R x) → Always P t → Always Q t → Always R t

@@ -1,0 +1,283 @@
+-- The steps that a loop over the steps of a pass made, and what is done after it, are steps of the traversal.
+use Rattle.std.proofs.Common.{◌≡◌, ℕ, zero, suc, ◌+◌, ◌-◌, ◌^◌, ◌≤◌, ◌<◌, Bool, true, false, List, length, Option, Some, refl, sym, ap, ◌∙◌, subst, arith}
+use Rattle.std.specs.Prelude.{slice_get, min, if◌then◌else◌}
+use Rattle.std.specs.Option.{option_map}
+use Rattle.sei_fault.specs.Chain.{Chain}
+use Rattle.sei_fault.specs.Counts.{Counts, Answered}
+use Rattle.sei_fault.specs.declared.place.Act.{Act}
+use Rattle.sei_fault.specs.declared.place.Phase.{Phase}
+use Rattle.sei_fault.specs.declared.place.Phase.TheVariants.{First, Restore, Second, Compare}
+use Rattle.sei_fault.specs.declared.place.Times.{Times}
+use Rattle.sei_fault.specs.declared.place.Times.TheVariants.{Once, Skip, Twice}
+use Rattle.sei_fault.specs.Question.{Question, Answer, honestly_to}
+use Rattle.sei_fault.specs.Tree.{Tree, Runs, bound}
+use Rattle.sei_fault.specs.Tree.Tree.{Done as Ended, Ask}
+use Rattle.sei_fault.proofs.Runs.{runs_bound, always}
+use Rattle.sei_stmt.specs.declared.stmt.Stmt.{Stmt}
+use Rattle.sei_stmt.specs.Machine.{Machine, Setting, Outcome, one_made, at_outcome}
+use Rattle.sei_stmt.specs.Machine.Outcome.{Next, Halted as Halts, Bad as Aborting}
+use Rattle.sei_stmt.specs.Statements.{statement_tree, step_tree}
+use Rattle.sei_words.specs.Loan.{words_of, bucket_of, place_of}
+use Rattle.sei_words.specs.Words.{BucketWords}
+use Rattle.sei_pass.specs.declared.given.Which.{Which}
+use Rattle.sei_pass.specs.declared.given.Which.TheVariants.{Making, Reading}
+use Rattle.sei_pass.specs.declared.loops.Asked.{Asked}
+use Rattle.sei_pass.specs.declared.loops.Asked.TheVariants as asked
+use Rattle.sei_pass.specs.declared.loops.Exit.{Exit}
+use Rattle.sei_pass.specs.declared.loops.Exit.TheVariants.{At, Halted, Bad, Struck, Alone}
+use Rattle.sei_pass.specs.declared.spaces.PassSpace.{PassSpace}
+use Rattle.sei_pass.specs.Acts.{act_of}
+use Rattle.sei_pass.specs.Arms.{Arm, arm_at, arm_as, arm_of, asked_of, is_looped}
+use Rattle.sei_pass.specs.Loop.{Here, Asks, Leads as LeadsOn, Leaves, RunsLoop}
+use Rattle.sei_pass.specs.Steps.{IsAnswer}
+use Rattle.sei_pass.proofs.StepLaws.{made_one, is_below}
+use Rattle.sei_traverse.specs.declared.turned.State.{State}
+use Rattle.sei_traverse.specs.declared.turned.State.TheVariants.{Went}
+use Rattle.sei_traverse.specs.declared.turned.Turned.{Turned}
+use Rattle.sei_traverse.specs.declared.turned.Want.{Want}
+use Rattle.sei_traverse.specs.declared.turned.Want.TheVariants.{Nothing}
+use Rattle.sei_traverse.specs.declared.walk.Ending.TheVariants.{Leads, Aborts}
+use Rattle.sei_traverse.specs.declared.walk.Walk.{Walk}
+use Rattle.sei_traverse.specs.Acts.{acted, at, closes}
+use Rattle.sei_traverse.specs.PassActs.{first_machine, second_machine, with_first, with_second, first_to, second_to}
+use Rattle.sei_traverse.specs.Running.{On, on, Quiet, RunsOn, rest}
+use Rattle.sei_traverse.specs.Service.{Service, Given, given_of, setting_in}
+use Rattle.sei_traverse.specs.State.{IsTraversal, is_running}
+use Rattle.sei_traverse.specs.Step.{Turn, turn, act_tree, site_of, arrival, goes, goes_on, once, turn_as, turn_at, turn_tree, TimedTwice}
+use Rattle.sei_traverse.proofs.Making.{makes_one}
+use Rattle.sei_traverse.proofs.PublicLoans.{left_in, left_place, left_bucket, left_words, left_is}
+use Rattle.sei_traverse.proofs.PublicWalkKept.{KeepsWalk, FitsIn, turn_kept}
+
+-- what is done in two pieces, one after the other
+bound_runs : {S A B : Type 0} (gives : S → (q : Question) → Answer q → S → Type 0) (t : Tree A) (f : A → Tree B) (c d : S) (y : B) →
+    Runs gives (bound t f) c d y → (m : S) × (x : A) × Runs gives t c m x × Runs gives (f x) m d y
+bound_runs gives (Ended r) f c d y h = (c, r, (refl, refl), h)
+bound_runs gives (Ask q k) f c d y (a, n, g, r) = let i = bound_runs gives (k a) f n d y r in (i.0, i.1, (a, n, g, i.2), i.3)
+
+-- The walk of a pass.
+
+abbrev pub pass_phase : Which → Phase
+pass_phase Making = First
+pass_phase Reading = Second
+
+abbrev pub machine_in : Which → Walk → List ℕ → Machine
+machine_in Making w words = first_machine w words
+machine_in Reading w words = second_machine w words
+
+abbrev pub with_machine : Which → Walk → Machine → Walk
+with_machine Making w m = with_first w m
+with_machine Reading w m = with_second w m
+
+-- its pass stands at this index with this machine
+abbrev pub walk_at : Which → Walk → Want → ℕ → Machine → Walk
+walk_at which w want i m = record (with_machine which w m) { place = at (pass_phase which) i; want = want }
+
+site_at : (which : Which) (s : Service) (w : Walk) (i : ℕ) (m : Machine) → site_of s (walk_at which w Nothing i m) ≡ option_map (act_of m.registers) (slice_get s.statements i)
+site_at Making s w i m = refl
+site_at Reading s w i m = refl
+
+sealed_at : (which : Which) (w : Walk) (want : Want) (i : ℕ) (m : Machine) → w.sealed ≡ (walk_at which w want i m).sealed
+sealed_at Making w want i m = refl
+sealed_at Reading w want i m = refl
+
+words_in : (which : Which) (w : Walk) (words : List ℕ) → (machine_in which w words).words ≡ words
+words_in Making w words = refl
+words_in Reading w words = refl
+
+walk_begins : (which : Which) (w : Walk) (words : List ℕ) → w.place.phase ≡ pass_phase which → walk_at which w w.want w.place.index (machine_in which w words) ≡ w
+walk_begins Making w words e = ap (λ (p : Phase). let v : Walk = record w { place = at p w.place.index } in v) (sym e)
+walk_begins Reading w words e = ap (λ (p : Phase). let v : Walk = record w { place = at p w.place.index } in v) (sym e)
+
+-- a place of the pass is not the end
+arrival_in : (which : Which) (i done : ℕ) → Went ≡ arrival (pass_phase which) (at (pass_phase which) i) done
+arrival_in Making i done = refl
+arrival_in Reading i done = refl
+
+-- A statement of the loop, and what is left of its step.
+
+-- what is left of a step after its statement
+abbrev left_asked : Given → ℕ → ℕ → Which → Walk → ℕ → Machine → Asked → Tree Turn
+left_asked g now later which w i m (asked.Next to) = goes (walk_at which w Nothing i m) m.words (at (pass_phase which) to)
+left_asked g now later which w i m asked.Halted = rest g now later (walk_at which w Nothing i m) m.words Halted
+left_asked g now later which w i m (asked.Bad cause) = rest g now later (walk_at which w Nothing i m) m.words (Bad cause)
+left_asked g now later which w i m (asked.Struck act times) = rest g now later (walk_at which w Nothing i m) m.words (Struck act times)
+left_asked g now later which w i m asked.Alone = rest g now later (walk_at which w Nothing i m) m.words Alone
+
+module _ {S : Type 0} (gives : S → (q : Question) → Answer q → S → Type 0) (g : Given) (now later : ℕ) where
+  once_pass : (which : Which) (w : Walk) (i : ℕ) (m n : Machine) (o : Outcome) (u d e : S) (z : Turn) → Runs gives (step_tree (setting_in g which w.sealed now) i m) u d (at_outcome n o) →
+      Runs gives (left_asked g now later which w i n (asked_of o)) d e z → Runs gives (once g now (walk_at which w Nothing i m) m.words) u e z
+  once_pass Making w i m n (Next to) u d e z r k =
+      let from = walk_at Making w Nothing i m in
+      let end = acted (walk_at Making w Nothing i n) n.words (Leads (at First to)) in
+      runs_bound gives (act_tree g now from m.words) goes_on u d e end z
+      (runs_bound gives (step_tree (setting_in g Making w.sealed now) i m) (first_to from) u d d (at_outcome n (Next to)) end r (refl, refl)) k
+  once_pass Making w i m n Halts u d e z r k =
+      let from = walk_at Making w Nothing i m in
+      let h = bound_runs gives (closes First (walk_at Making w Nothing i n) n.words Nothing (at Restore 0)) goes_on d e z k in
+      runs_bound gives (act_tree g now from m.words) goes_on u h.0 e h.1 z
+      (runs_bound gives (step_tree (setting_in g Making w.sealed now) i m) (first_to from) u d h.0 (at_outcome n Halts) h.1 r h.2) h.3
+  once_pass Making w i m n (Aborting cause) u d e z r k =
+      let from = walk_at Making w Nothing i m in
+      let end = acted (walk_at Making w Nothing i n) n.words (Aborts cause) in
+      runs_bound gives (act_tree g now from m.words) goes_on u d e end z
+      (runs_bound gives (step_tree (setting_in g Making w.sealed now) i m) (first_to from) u d d (at_outcome n (Aborting cause)) end r (refl, refl)) k
+  once_pass Reading w i m n (Next to) u d e z r k =
+      let from = walk_at Reading w Nothing i m in
+      let end = acted (walk_at Reading w Nothing i n) n.words (Leads (at Second to)) in
+      runs_bound gives (act_tree g now from m.words) goes_on u d e end z
+      (runs_bound gives (step_tree (setting_in g Reading w.sealed now) i m) (second_to from) u d d (at_outcome n (Next to)) end r (refl, refl)) k
+  once_pass Reading w i m n Halts u d e z r k =
+      let from = walk_at Reading w Nothing i m in
+      let h = bound_runs gives (closes Second (walk_at Reading w Nothing i n) n.words Nothing (at Compare 0)) goes_on d e z k in
+      runs_bound gives (act_tree g now from m.words) goes_on u h.0 e h.1 z
+      (runs_bound gives (step_tree (setting_in g Reading w.sealed now) i m) (second_to from) u d h.0 (at_outcome n Halts) h.1 r h.2) h.3
+  once_pass Reading w i m n (Aborting cause) u d e z r k =
+      let from = walk_at Reading w Nothing i m in
+      let end = acted (walk_at Reading w Nothing i n) n.words (Aborts cause) in
+      runs_bound gives (act_tree g now from m.words) goes_on u d e end z
+      (runs_bound gives (step_tree (setting_in g Reading w.sealed now) i m) (second_to from) u d d (at_outcome n (Aborting cause)) end r (refl, refl)) k
+
+  module _ (which : Which) (w : Walk) where
+    abbrev setting : Setting
+    setting = setting_in g which w.sealed now
+
+    as_pass : (i : ℕ) (m : Machine) (s : Stmt) (act : Act) (t : Times) (u d e : S) (x : Arm) (z : Turn) → slice_get g.service.statements i ≡ Some s → m.made < g.space.budget →
+        Runs gives (arm_as (statement_tree setting i (one_made m) s) m act t) u d x →
+        Runs gives (left_asked g now later which w i x.machine x.asked) d e z → Runs gives (turn_as g now later (walk_at which w Nothing i m) m.words act t) u e z
+    as_pass i m s act Once u d e x z f b r k =
+        let y = bound_runs gives (statement_tree setting i (one_made m) s) arm_of u d x r in
+        once_pass which w i m y.1.machine y.1.outcome u y.0 e z (made_one gives setting i m u y.0 s y.1 (sym f) (is_below m.made g.space.budget b) y.2)
+        (subst (λ (c : S). Runs gives (left_asked g now later which w i y.1.machine (asked_of y.1.outcome)) c e z) y.3.1
+        (subst (λ (a : Arm). Runs gives (left_asked g now later which w i a.machine a.asked) d e z) y.3.0 k))
+    as_pass i m s act Skip u d e x z f b (r, v) k =
+        subst (λ (c : S). Runs gives (turn_as g now later (walk_at which w Nothing i m) m.words act Skip) c e z) v
+        (subst (λ (a : Arm). Runs gives (left_asked g now later which w i a.machine a.asked) d e z) r k)
+    as_pass i m s act Twice u d e x z f b (r, v) k =
+        subst (λ (c : S). Runs gives (turn_as g now later (walk_at which w Nothing i m) m.words act Twice) c e z) v
+        (subst (λ (a : Arm). Runs gives (left_asked g now later which w i a.machine a.asked) d e z) r k)
+
+    -- a statement that the loop does not make is not asked for
+    arm_is : (b : Bool) (t : Tree Arm) (m : Machine) (c d : S) (x : Arm) → (x.asked ≡ asked.Alone → ⊥) →
+        Runs gives (if b then t else Ended (record { machine = m; asked = asked.Alone })) c d x → Runs gives t c d x
+    arm_is true t m c d x n r = r
+    arm_is false t m c d x n (r, s) = absurd (n (ap (λ (y : Arm). y.asked) r))
+
+    -- what was asked for in the loop, and what was left of it, is a step
+    asked_pass : (want : Want) (x : Here S) (a : Asked) (m : Machine) (d e : S) (z : Turn) → Asks gives setting (pass_phase which) x a m d → (a ≡ asked.Alone → ⊥) →
+        Runs gives (left_asked g now later which w x.index m a) d e z → Runs gives (turn_tree g now later (walk_at which w want x.index x.machine) x.machine.words) x.core e z
+    asked_pass want x a m d e z asks never k =
+        let s = asks.statement in
+        let act = act_of x.machine.registers s in
+        let r = arm_is (is_looped s) (arm_at setting (pass_phase which) x.index x.machine s act) x.machine x.core d (record { machine = m; asked = a }) never asks.runs in
+        subst (λ (o : Option Act). Runs gives (turn_at g now later (walk_at which w Nothing x.index x.machine) x.machine.words o) x.core e z)
+        (sym (site_at which g.service w x.index x.machine ∙ ap (option_map (act_of x.machine.registers)) asks.stands))
+        (r.0, r.1, r.2, as_pass x.index x.machine s act r.0 r.1 d e (record { machine = m; asked = a }) z asks.stands asks.room r.3 k)
+
+    -- a whole step of the loop
+    leads_turn : (want : Want) (x y : Here S) → LeadsOn gives setting (pass_phase which) x y →
+        Runs gives (turn_tree g now later (walk_at which w want x.index x.machine) x.machine.words) x.core y.core (turn (walk_at which w Nothing y.index y.machine) y.machine.words Went)
+    leads_turn want x y l =
+        let to = walk_at which w Nothing y.index y.machine in
+        asked_pass want x (asked.Next l.to) y.machine l.then y.core (turn to y.machine.words Went) l.asks (λ e. cc)
+        (at (pass_phase which) y.index, y.core, l.goes, (ap (λ (s : State). turn to y.machine.words s) (arrival_in which y.index to.gate.done), refl))
+
+    -- whatever finishes what the loop left of a step, finishes the step
+    leaves_turn : (want : Want) (x : Here S) (exit : Exit) (m : Machine) (d e : S) (z : Turn) → Leaves gives setting (pass_phase which) x exit m d →
+        Runs gives (rest g now later (walk_at which w Nothing x.index m) m.words exit) d e z → Runs gives (turn_tree g now later (walk_at which w want x.index x.machine) x.machine.words) x.core e z
+    leaves_turn want x (At p) m d e z (to, c, asks, h) k = asked_pass want x (asked.Next to) m c e z asks (λ e. cc) (p, d, h, k)
+    leaves_turn want x Halted m d e z asks k = asked_pass want x asked.Halted m d e z asks (λ e. cc) k
+    leaves_turn want x (Bad cause) m d e z asks k = asked_pass want x (asked.Bad cause) m d e z asks (λ e. cc) k
+    leaves_turn want x (Struck act times) m d e z asks k = asked_pass want x (asked.Struck act times) m d e z asks (λ e. cc) k
+    leaves_turn want x Alone m d e z (f, h) k =
+        subst (λ (c : S). Runs gives (turn_tree g now later (walk_at which w want x.index x.machine) x.machine.words) c e z) h
+        (subst (λ (n : Machine). Runs gives (turn_tree g now later (walk_at which w want x.index n) n.words) d e z) f k)
+
+-- The loop, and what is done after it.
+
+module _ {S : Type 0} (gives : S → (q : Question) → Answer q → S → Type 0) (counts : S → Counts)
+    (law : (s : S) (q : Question) (a : Answer q) (t : S) → gives s q a t → Answered (a ≡ honestly_to q) (counts s) (counts t)) (told : Option ℕ) (service : Service) (input : List ℕ)
+    (space : PassSpace) (loan : Option BucketWords) (which : Which) (w : Walk) (steps : ℕ) (fits : FitsIn space (service.parsed input) w.sealed) where
+  abbrev given : Given
+  given = given_of service input space (bucket_of loan)
+
+  -- the want before n steps
+  abbrev want_at : ℕ → Want
+  want_at zero = w.want
+  want_at (suc n) = Nothing
+
+  -- after n steps of the loop
+  abbrev on_at : ℕ → Here S → On S
+  on_at n x = on (record { walk = walk_at which w (want_at n) x.index x.machine; space = space; steps = min (steps + n) (2 ^ 64 - 1); running = true }) (left_in loan x.machine.words) x.core
+
+  abbrev Keeps : Walk → List ℕ → Turn → Type 0
+  Keeps v words z = KeepsWalk space (service.parsed input) v words z.walk z.words
+
+  -- what is lent to the step, and what of it is left
+  turns_from : (v : Walk) (words : List ℕ) (c d : S) (z : Turn) → length words ≡ length (words_of loan) → TimedTwice gives told (λ a b. turn_tree given a b v words) c d z →
+      TimedTwice gives told (λ a b. turn_tree (given_of service input space (bucket_of (left_in loan words))) a b v (words_of (left_in loan words))) c d z
+  turns_from v words c d z e r =
+      subst (λ (k : Option ℕ). TimedTwice gives told (λ a b. turn_tree (given_of service input space k) a b v (words_of (left_in loan words))) c d z) (sym (left_bucket loan words))
+      (subst (λ (ws : List ℕ). TimedTwice gives told (λ a b. turn_tree given a b v ws) c d z) (sym (left_words loan words e)) r)
+
+  -- as many words as were lent are left
+  turns_long : (v : Walk) (words : List ℕ) (c d : S) (z : Turn) → length words ≡ length (words_of loan) → TimedTwice gives told (λ a b. turn_tree given a b v words) c d z → length z.words ≡ length (words_of loan)
+  turns_long v words c d z e r =
+      (always gives (Keeps v words) (turn_tree given r.now r.later v words) c d z (turn_kept space (service.parsed input) v words given refl refl r.now r.later) r.runs).long ∙ e
+
+  record Stands (n : ℕ) (start x : Here S) : Type 0 where
+    chain : Chain (Quiet gives counts told service input) n (on_at 0 start) (on_at n x)
+    rooms : IsTraversal (on_at n x).traversal
+    long : length x.machine.words ≡ length (words_of loan)
+
+  fits_at : (n : ℕ) (x : Here S) → FitsIn space (service.parsed input) (walk_at which w (want_at n) x.index x.machine).sealed
+  fits_at n x = subst (λ s. FitsIn space (service.parsed input) s) (sealed_at which w (want_at n) x.index x.machine) fits
+
+  module _ (now : ℕ) (answer : IsAnswer told now) where
+    -- a whole step of the loop is a quiet one
+    leads_quiet : (n : ℕ) (start x y : Here S) → Stands n start x → LeadsOn gives (setting_in given which w.sealed now) (pass_phase which) x y → Stands (suc n) start y
+    leads_quiet n start x y s l =
+        let from = walk_at which w (want_at n) x.index x.machine in
+        let to = walk_at which w Nothing y.index y.machine in
+        let bare : TimedTwice gives told (λ a b. turn_tree given a b from x.machine.words) x.core y.core (turn to y.machine.words Went) =
+        record { now = now; later = now; answer = answer; answer_later = answer; runs = leads_turn gives given now now which w (want_at n) x y l } in
+        let long = turns_long from x.machine.words x.core y.core (turn to y.machine.words Went) s.long bare in
+        let turned = turns_from from x.machine.words x.core y.core (turn to (words_of (left_in loan y.machine.words)) Went) s.long
+        (subst (λ (ws : List ℕ). TimedTwice gives told (λ a b. turn_tree given a b from x.machine.words) x.core y.core (turn to ws Went)) (sym (left_words loan y.machine.words long)) bare) in
+        let makes = makes_one gives counts law told service input (on_at n x) (on_at (suc n) y) (record { want = Nothing; state = Went }) turned refl (left_place loan y.machine.words ∙ sym (left_place loan x.machine.words))
+        refl (omega arith) refl s.rooms (fits_at n x) in
+        record { chain = (on_at n x, s.chain, makes); rooms = makes.rooms; long = long }
+
+    stands_on : (n : ℕ) (start x : Here S) → Stands 0 start start → Chain (LeadsOn gives (setting_in given which w.sealed now) (pass_phase which)) n start x → Stands n start x
+    stands_on zero start x s e = subst (λ (y : Here S). Stands 0 start y) (sym e) s
+    stands_on (suc n) start x s (y, c, l) = leads_quiet n start y x (stands_on n start y s c) l
+
+  -- the loop begins at the traversal that was given
+  begins_at : (c : S) → w.place.phase ≡ pass_phase which → steps ≤ 2 ^ 64 - 1 →
+      on_at 0 (record { machine = machine_in which w (words_of loan); index = w.place.index; core = c }) ≡ on (record { walk = w; space = space; steps = steps; running = true }) loan c
+  begins_at c e small =
+      ap (λ (v : Walk). on (record { walk = v; space = space; steps = min (steps + 0) (2 ^ 64 - 1); running = true }) (left_in loan (machine_in which w (words_of loan)).words) c) (walk_begins which w (words_of loan) e)
+      ∙ ap (λ (n : ℕ). on (record { walk = w; space = space; steps = n; running = true }) (left_in loan (machine_in which w (words_of loan)).words) c) (let k : min (steps + 0) (2 ^ 64 - 1) ≡ steps = omega (arith, small) in k)
+      ∙ ap (λ (l : Option BucketWords). on (record { walk = w; space = space; steps = steps; running = true }) l c) (ap (left_in loan) (words_in which w (words_of loan)) ∙ left_is loan loan refl)
+
+  -- so it and what is done after it are a run
+  pub runs_on : (c d f : S) (n i : ℕ) (exit : Exit) (m : Machine) (u : Walk) (left : Option BucketWords) (t : Turned) → w.place.phase ≡ pass_phase which → steps ≤ 2 ^ 64 - 1 →
+      IsTraversal (record { walk = w; space = space; steps = steps; running = true }) → place_of left ≡ place_of loan → t.want ≡ u.want →
+      (r : TimedTwice gives told (λ a b. rest given a b (walk_at which w Nothing i m) m.words exit) d f (turn u (words_of left) t.state)) →
+      RunsLoop gives (setting_in given which w.sealed r.now) (pass_phase which) n i (record { machine = machine_in which w (words_of loan); index = w.place.index; core = c }) exit m d →
+      RunsOn gives counts told service input n (on (record { walk = w; space = space; steps = steps; running = true }) loan c)
+      (on (record { walk = u; space = space; steps = min (steps + suc n) (2 ^ 64 - 1); running = is_running t.state }) left f) t
+  runs_on c d f n i exit m u left t e small is same wanted r l =
+      let start : Here S = record { machine = machine_in which w (words_of loan); index = w.place.index; core = c } in
+      let begins = begins_at c e small in
+      let end : Here S = record { machine = l.machine; index = i; core = l.then } in
+      let first : Stands 0 start start = record { chain = refl; rooms = subst (λ (x : On S). IsTraversal x.traversal) (sym begins) is; long = ap length (words_in which w (words_of loan)) } in
+      let stands = stands_on r.now r.answer n start end first l.chain in
+      let from = walk_at which w (want_at n) i l.machine in
+      let bare : TimedTwice gives told (λ a b. turn_tree given a b from l.machine.words) l.then f (turn u (words_of left) t.state) =
+      record { now = r.now; later = r.later; answer = r.answer; answer_later = r.answer_later; runs = leaves_turn gives given r.now r.later which w (want_at n) end exit m d f (turn u (words_of left) t.state) l.leaves r.runs } in
+      subst (λ (x : On S). RunsOn gives counts told service input n x (on (record { walk = u; space = space; steps = min (steps + suc n) (2 ^ 64 - 1); running = is_running t.state }) left f) t) begins (record {
+        last = on_at n end;
+        chain = stands.chain;
+        makes = makes_one gives counts law told service input (on_at n end) (on (record { walk = u; space = space; steps = min (steps + suc n) (2 ^ 64 - 1); running = is_running t.state }) left f) t
+            (turns_from from l.machine.words l.then f (turn u (words_of left) t.state) stands.long bare) wanted (same ∙ sym (left_place loan l.machine.words)) refl (omega arith) refl stands.rooms (fits_at n end);
+      })
