@@ -80,14 +80,14 @@ module _ (g : Geometry) (text : List ℕ) (now : ℕ) (buckets : List BucketWord
       IsTurn g text now lent old new buckets (slice_set buckets b left) core later t
   turned_with b w left e there st = record {
     words = left.words;
-    is = ap (λ (o : Option BucketWords). turned g text now old.walk o core) (ap (loan_in buckets) e ∙ there) ∙ turn_is g text now (Some w) left.words old new.walk t.state core later same st.turned;
-    buckets = put_back_is buckets b w left there st.place ∙ ap (λ (l : Option ℕ). put_back buckets l (loan_in buckets l) left.words) (sym e);
-    want = st.want;
-    sealed = st.sealed;
-    space = st.space;
-    steps = st.steps;
-    running = st.running;
-    rooms = st.rooms;
+    is = ap (λ (o : Option BucketWords). turned g text now old.walk o core) (ap (loan_in buckets) e ∙ there) ∙ turn_is g text now (Some w) left.words old new.walk t.state core later same st.makes.turned;
+    buckets = put_back_is buckets b w left there st.makes.lent ∙ ap (λ (l : Option ℕ). put_back buckets l (loan_in buckets l) left.words) (sym e);
+    want = st.makes.want;
+    sealed = st.makes.sealed;
+    space = st.makes.space;
+    steps = st.makes.steps;
+    running = st.makes.running;
+    rooms = st.makes.rooms;
     within = st.within;
   }
 
@@ -95,14 +95,14 @@ module _ (g : Geometry) (text : List ℕ) (now : ℕ) (buckets : List BucketWord
   pub turned_without : loan_in buckets lent ≡ None → IsStep g text now None None old new core later t → IsTurn g text now lent old new buckets buckets core later t
   turned_without none st = record {
     words = [];
-    is = ap (λ (o : Option BucketWords). turned g text now old.walk o core) none ∙ turn_is g text now None [] old new.walk t.state core later same st.turned;
+    is = ap (λ (o : Option BucketWords). turned g text now old.walk o core) none ∙ turn_is g text now None [] old new.walk t.state core later same st.makes.turned;
     buckets = sym (none_put buckets lent []) ∙ ap (λ (o : Option BucketWords). put_back buckets lent o []) (sym none);
-    want = st.want;
-    sealed = st.sealed;
-    space = st.space;
-    steps = st.steps;
-    running = st.running;
-    rooms = st.rooms;
+    want = st.makes.want;
+    sealed = st.makes.sealed;
+    space = st.makes.space;
+    steps = st.makes.steps;
+    running = st.makes.running;
+    rooms = st.makes.rooms;
     within = st.within;
   }
 

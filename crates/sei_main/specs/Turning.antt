@@ -4,27 +4,17 @@ use Rattle.mc_model.specs.declared.geometry.Geometry.{Geometry}
 use Rattle.sei_fault.specs.Counts.{Counts}
 use Rattle.sei_fault.specs.Script.{ScriptState, script_answer, script_next, script_counts}
 use Rattle.sei_fault.specs.Scripted.{function_core}
-use Rattle.sei_words.specs.Loan.{words_of, bucket_of, place_of}
 use Rattle.sei_words.specs.Words.{BucketWords}
 use Rattle.sei_traverse.specs.declared.turned.Turned.{Turned}
 use Rattle.sei_traverse.specs.Bounds.{StepsWithin, StepsAfter}
-use Rattle.sei_traverse.specs.Service.{given_of}
-use Rattle.sei_traverse.specs.Step.{turn, turn_tree, TimedTwice}
+use Rattle.sei_traverse.specs.Running.{on, Makes}
 use Rattle.sei_traverse.specs.State.{TraversalState, IsTraversal, one_more, is_running}
 use Rattle.sei_main.specs.Errands.{service_for}
 use Rattle.sei_main.specs.Course.{loan_in, put_back, turned}
 
 -- a step on what is lent is that of the definition, under the functions of a core with a plan
 pub record IsStep (g : Geometry) (text : List ℕ) (now : ℕ) (before after : Option BucketWords) (old new : TraversalState) (core later : ScriptState) (t : Turned) : Type 0 where
-  pub turned : TimedTwice (function_core script_answer script_next) (Some now) (λ now later. turn_tree (given_of (service_for g) text old.space (bucket_of before)) now later old.walk (words_of before)) core later
-      (turn new.walk (words_of after) t.state)
-  pub place : place_of after ≡ place_of before
-  pub want : t.want ≡ new.walk.want
-  pub sealed : new.walk.sealed ≡ old.walk.sealed
-  pub space : new.space ≡ old.space
-  pub steps : new.steps ≡ one_more old.steps
-  pub running : new.running ≡ is_running t.state
-  pub rooms : IsTraversal new
+  pub makes : Makes (function_core script_answer script_next) script_counts (Some now) (service_for g) text (on old before core) (on new after later) t
   pub within : (begin : Counts) → StepsWithin old begin (script_counts core) → StepsAfter new begin (script_counts later) t.state
 
 -- and so is one on the buckets

@@ -5,18 +5,17 @@ ghost use Rattle.sei_code.specs.declared.modes.Mode.{Mode};
 ghost use Rattle.sei_fault.specs.Counts.{Counts};
 ghost use Rattle.sei_stmt.specs.Handling.{parsed_words};
 ghost use Rattle.sei_words.specs.Exits.{lent_at, lent_left};
-ghost use Rattle.sei_words.specs.Loan.{words_of, bucket_of, place_of, IsOf};
+ghost use Rattle.sei_words.specs.Loan.{IsOf};
 ghost use Rattle.sei_pass.specs.Setting.{sealed_call};
 ghost use Rattle.sei_pass.specs.Spaces.{pass_space};
 ghost use Rattle.sei_traverse.specs.Bounds.{most_steps, StepsWithin, StepsAfter};
 ghost use Rattle.sei_traverse.specs.Errand.{Errand, IsErrand};
 ghost use Rattle.sei_traverse.specs.Facts.{Facts, LendsWanted, Isolates};
 ghost use Rattle.sei_traverse.specs.OnWay.{lent_words, Lends, TellsAs, OnWay, StaysOnWay, IsUnfit};
-ghost use Rattle.sei_traverse.specs.Noting.{NotesTime};
 ghost use Rattle.sei_traverse.specs.Phases.{reply_of};
+ghost use Rattle.sei_traverse.specs.Running.{on, Makes};
 ghost use Rattle.sei_traverse.specs.Service.{service_of, given_of};
-ghost use Rattle.sei_traverse.specs.State.{IsTraversal, begun_traversal, one_more, is_running, noted_time};
-ghost use Rattle.sei_traverse.specs.Step.{turn, turn_tree, TimedTwice};
+ghost use Rattle.sei_traverse.specs.State.{begun_traversal, noted_time};
 ghost use Rattle.sei_traverse.specs.Trusted.{IsTrusted};
 
 use crate::turned::{State, Turned, Want};
@@ -180,25 +179,10 @@ impl Traversal {
         // What is lent is of the traversal's geometry.
         requires lent { IsOf self.old.space.geometry (lent_at lent) }
         // The step is that of the definition, whatever the core answers.
-        ensures turned { TimedTwice K.gives (C.told clock.now)
-            (λ now later. turn_tree (given_of (service_of (H.statements hands.now) (H.call_count hands.now) (H.parsed hands.now) (H.rendered hands.now)) input.now self.old.space (bucket_of (lent_at lent.entry)))
-            now later self.old.walk (words_of (lent_at lent.entry)))
-            core.old core.new (turn self.new.walk (words_of (lent_left lent.exit)) result.state) }
-        ensures want { result.want ≡ self.new.walk.want }
-        ensures lent { place_of (lent_left lent.exit) ≡ place_of (lent_at lent.entry) }
-        ensures sealed { self.new.walk.sealed ≡ self.old.walk.sealed }
-        ensures space { self.new.space ≡ self.old.space }
-        ensures steps { self.new.steps ≡ one_more self.old.steps }
-        ensures running { self.new.running ≡ is_running result.state }
-        // Logs, outputs and copies keep their rooms.
-        ensures rooms { IsTraversal self.new }
+        ensures makes { Makes K.gives K.counts (C.told clock.now) (service_of (H.statements hands.now) (H.call_count hands.now) (H.parsed hands.now) (H.rendered hands.now)) input.now
+            (on self.old (lent_at lent.entry) core.old) (on self.new (lent_left lent.exit) core.new) result }
         // Each step but a struck one comes further, so with one strike at most the number of steps is bounded.
         ensures within { (begin : Counts) → StepsWithin self.old begin (K.counts core.old) → StepsAfter self.new begin (K.counts core.new) result.state }
-        // What is noted of the time is the clock's answer, whatever the core answers.
-        ensures noted { NotesTime (C.told clock.now) self.old.walk.notes.now self.new.walk.notes.now }
-        // No question is taken back, and no strike; at its last value the count of questions stands still.
-        ensures asked { min (K.counts core.old).asked (2 ^ 128 - 1) ≤ (K.counts core.new).asked }
-        ensures struck { (K.counts core.old).struck ≤ (K.counts core.new).struck }
         // Where the core tells how many strikes can still fall, it still does, and each strike is one less.
         ensures room { (r : ℕ) → (K.counts core.old).room ≡ Some r →
             (s : ℕ) × ((K.counts core.new).room ≡ Some s) × ((K.counts core.new).struck + s ≡ (K.counts core.old).struck + r) }
@@ -238,21 +222,9 @@ impl Traversal {
     ) -> Turned
         requires room { length (parsed_words (sealed_call (H.parsed hands.now input.now) self.old.walk.sealed.nth)) ≤ self.old.space.input }
         requires lent { IsOf self.old.space.geometry (L.loan lent.old) }
-        ensures turned { TimedTwice K.gives (C.told clock.now)
-            (λ now later. turn_tree (given_of (service_of (H.statements hands.now) (H.call_count hands.now) (H.parsed hands.now) (H.rendered hands.now)) input.now self.old.space (bucket_of (L.loan lent.old)))
-            now later self.old.walk (words_of (L.loan lent.old)))
-            core.old core.new (turn self.new.walk (words_of (L.loan lent.new)) result.state) }
-        ensures want { result.want ≡ self.new.walk.want }
-        ensures lent { place_of (L.loan lent.new) ≡ place_of (L.loan lent.old) }
-        ensures sealed { self.new.walk.sealed ≡ self.old.walk.sealed }
-        ensures space { self.new.space ≡ self.old.space }
-        ensures steps { self.new.steps ≡ one_more self.old.steps }
-        ensures running { self.new.running ≡ is_running result.state }
-        ensures rooms { IsTraversal self.new }
+        ensures makes { Makes K.gives K.counts (C.told clock.now) (service_of (H.statements hands.now) (H.call_count hands.now) (H.parsed hands.now) (H.rendered hands.now)) input.now
+            (on self.old (L.loan lent.old) core.old) (on self.new (L.loan lent.new) core.new) result }
         ensures within { (begin : Counts) → StepsWithin self.old begin (K.counts core.old) → StepsAfter self.new begin (K.counts core.new) result.state }
-        ensures noted { NotesTime (C.told clock.now) self.old.walk.notes.now self.new.walk.notes.now }
-        ensures asked { min (K.counts core.old).asked (2 ^ 128 - 1) ≤ (K.counts core.new).asked }
-        ensures struck { (K.counts core.old).struck ≤ (K.counts core.new).struck }
         ensures room { (r : ℕ) → (K.counts core.old).room ≡ Some r →
             (s : ℕ) × ((K.counts core.new).room ≡ Some s) × ((K.counts core.new).struck + s ≡ (K.counts core.old).struck + r) }
         ensures on_way { (e : Errand) (begin : Counts) → IsErrand e → TellsAs e.clock (C.told clock.now) →

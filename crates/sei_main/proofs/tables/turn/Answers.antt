@@ -28,7 +28,7 @@ returns-in-Some-clause-laid_out c =
     let b = c.in-Some.bucket in
     let w : BucketWords = c.index_mut-words.result.now in
     let inside : b < length buckets = omega (arith, c.if-bucket-len.true, c.len.ensures) in
-    still_laid_out c.args.hands.now buckets b w c.turn_on.new.words (ap (λ (x : BucketWords). x.geometry) c.index_mut-words.ensures.value ∙ c.requires.laid_out b _ inside) c.turn_on.ensures.place c.requires.laid_out
+    still_laid_out c.args.hands.now buckets b w c.turn_on.new.words (ap (λ (x : BucketWords). x.geometry) c.index_mut-words.ensures.value ∙ c.requires.laid_out b _ inside) c.turn_on.ensures.makes.lent c.requires.laid_out
 
 pub returns-in-Some-2-clause-turned : goal.returns-in-Some-2-clause-turned
 returns-in-Some-2-clause-turned c =
