@@ -50,3 +50,4 @@ pub mod PublicWalkKept
 pub mod PublicLoans
 pub mod Making
 pub mod Lift
+pub mod Resting

@@ -2,6 +2,7 @@
 use Rattle.std.proofs.Common.{◌≡◌, ℕ, zero, suc, ◌+◌, ◌-◌, ◌^◌, ◌≤◌, ◌<◌, Bool, true, false, List, length, Option, Some, refl, sym, ap, ◌∙◌, subst, arith}
 use Rattle.std.specs.Prelude.{slice_get, min, if◌then◌else◌}
 use Rattle.std.specs.Option.{option_map}
+use Rattle.sei_code.specs.Kept.{Kept}
 use Rattle.sei_fault.specs.Chain.{Chain}
 use Rattle.sei_fault.specs.Counts.{Counts, Answered}
 use Rattle.sei_fault.specs.declared.place.Act.{Act}
@@ -13,6 +14,8 @@ use Rattle.sei_fault.specs.Question.{Question, Answer, honestly_to}
 use Rattle.sei_fault.specs.Tree.{Tree, Runs, bound}
 use Rattle.sei_fault.specs.Tree.Tree.{Done as Ended, Ask}
 use Rattle.sei_fault.proofs.Runs.{runs_bound, always}
+use Rattle.sei_log.specs.declared.log.Change.{Change}
+use Rattle.sei_log.specs.declared.notes.Notes.{Notes}
 use Rattle.sei_stmt.specs.declared.stmt.Stmt.{Stmt}
 use Rattle.sei_stmt.specs.Machine.{Machine, Setting, Outcome, one_made, at_outcome}
 use Rattle.sei_stmt.specs.Machine.Outcome.{Next, Halted as Halts, Bad as Aborting}
@@ -29,7 +32,8 @@ use Rattle.sei_pass.specs.declared.spaces.PassSpace.{PassSpace}
 use Rattle.sei_pass.specs.Acts.{act_of}
 use Rattle.sei_pass.specs.Arms.{Arm, arm_at, arm_as, arm_of, asked_of, is_looped}
 use Rattle.sei_pass.specs.Loop.{Here, Asks, Leads as LeadsOn, Leaves, RunsLoop}
-use Rattle.sei_pass.specs.Steps.{IsAnswer}
+use Rattle.sei_pass.specs.State.{PassState}
+use Rattle.sei_pass.specs.Steps.{IsAnswer, machine_of}
 use Rattle.sei_pass.proofs.StepLaws.{made_one, is_below}
 use Rattle.sei_traverse.specs.declared.turned.State.{State}
 use Rattle.sei_traverse.specs.declared.turned.State.TheVariants.{Went}
@@ -39,14 +43,16 @@ use Rattle.sei_traverse.specs.declared.turned.Want.TheVariants.{Nothing}
 use Rattle.sei_traverse.specs.declared.walk.Ending.TheVariants.{Leads, Aborts}
 use Rattle.sei_traverse.specs.declared.walk.Walk.{Walk}
 use Rattle.sei_traverse.specs.Acts.{acted, at, closes}
-use Rattle.sei_traverse.specs.PassActs.{first_machine, second_machine, with_first, with_second, first_to, second_to}
-use Rattle.sei_traverse.specs.Running.{On, on, Quiet, RunsOn, rest}
+use Rattle.sei_traverse.specs.PassActs.{with_first, with_second, first_to, second_to}
+use Rattle.sei_traverse.specs.Running.{On, on, Quiet, RunsOn, rest, begun_at, left_at}
 use Rattle.sei_traverse.specs.Service.{Service, Given, given_of, setting_in}
-use Rattle.sei_traverse.specs.State.{IsTraversal, is_running}
+use Rattle.sei_traverse.specs.State.{IsTraversal}
 use Rattle.sei_traverse.specs.Step.{Turn, turn, act_tree, site_of, arrival, goes, goes_on, once, turn_as, turn_at, turn_tree, TimedTwice}
 use Rattle.sei_traverse.proofs.Making.{makes_one}
+use Rattle.sei_traverse.proofs.PassLaws.{pass_again}
 use Rattle.sei_traverse.proofs.PublicLoans.{left_in, left_place, left_bucket, left_words, left_is}
 use Rattle.sei_traverse.proofs.PublicWalkKept.{KeepsWalk, FitsIn, turn_kept}
+use Rattle.sei_traverse.proofs.TurnLaws.{same_bucket}
 
 -- what is done in two pieces, one after the other
 bound_runs : {S A B : Type 0} (gives : S → (q : Question) → Answer q → S → Type 0) (t : Tree A) (f : A → Tree B) (c d : S) (y : B) →
@@ -60,9 +66,16 @@ abbrev pub pass_phase : Which → Phase
 pass_phase Making = First
 pass_phase Reading = Second
 
+abbrev pub pass_in : Which → Walk → PassState
+pass_in Making w = w.first
+pass_in Reading w = w.second
+
+abbrev pub log_in : Which → Walk → Kept Change
+log_in Making w = w.first_log
+log_in Reading w = w.second_log
+
 abbrev pub machine_in : Which → Walk → List ℕ → Machine
-machine_in Making w words = first_machine w words
-machine_in Reading w words = second_machine w words
+machine_in which w words = machine_of (pass_in which w) words (log_in which w) w.notes
 
 abbrev pub with_machine : Which → Walk → Machine → Walk
 with_machine Making w m = with_first w m
@@ -80,13 +93,19 @@ sealed_at : (which : Which) (w : Walk) (want : Want) (i : ℕ) (m : Machine) →
 sealed_at Making w want i m = refl
 sealed_at Reading w want i m = refl
 
-words_in : (which : Which) (w : Walk) (words : List ℕ) → (machine_in which w words).words ≡ words
-words_in Making w words = refl
-words_in Reading w words = refl
-
 walk_begins : (which : Which) (w : Walk) (words : List ℕ) → w.place.phase ≡ pass_phase which → walk_at which w w.want w.place.index (machine_in which w words) ≡ w
 walk_begins Making w words e = ap (λ (p : Phase). let v : Walk = record w { place = at p w.place.index } in v) (sym e)
 walk_begins Reading w words e = ap (λ (p : Phase). let v : Walk = record w { place = at p w.place.index } in v) (sym e)
+
+-- the walk whose pass stands at this index, and is this one with this log
+abbrev pub walk_with : Which → Walk → ℕ → PassState → Kept Change → Walk
+walk_with Making w i q log = record w { place = at First i; want = Nothing; first = q; first_log = log }
+walk_with Reading w i q log = record w { place = at Second i; want = Nothing; second = q; second_log = log }
+
+-- it is known by its machine
+walk_again : (which : Which) (w : Walk) (i : ℕ) (q : PassState) (words : List ℕ) (log : Kept Change) → q.space ≡ (pass_in which w).space → walk_with which w i q log ≡ walk_at which w Nothing i (machine_of q words log w.notes)
+walk_again Making w i q words log e = ap (λ (p : PassState). walk_with Making w i p log) (sym (pass_again w.first q words log w.notes e))
+walk_again Reading w i q words log e = ap (λ (p : PassState). walk_with Reading w i p log) (sym (pass_again w.second q words log w.notes e))
 
 -- a place of the pass is not the end
 arrival_in : (which : Which) (i done : ℕ) → Went ≡ arrival (pass_phase which) (at (pass_phase which) i) done
@@ -253,31 +272,51 @@ module _ {S : Type 0} (gives : S → (q : Question) → Answer q → S → Type 
 
   -- the loop begins at the traversal that was given
   begins_at : (c : S) → w.place.phase ≡ pass_phase which → steps ≤ 2 ^ 64 - 1 →
-      on_at 0 (record { machine = machine_in which w (words_of loan); index = w.place.index; core = c }) ≡ on (record { walk = w; space = space; steps = steps; running = true }) loan c
+      on_at 0 (record { machine = machine_in which w (words_of loan); index = w.place.index; core = c }) ≡ on (begun_at w space steps) loan c
   begins_at c e small =
       ap (λ (v : Walk). on (record { walk = v; space = space; steps = min (steps + 0) (2 ^ 64 - 1); running = true }) (left_in loan (machine_in which w (words_of loan)).words) c) (walk_begins which w (words_of loan) e)
       ∙ ap (λ (n : ℕ). on (record { walk = w; space = space; steps = n; running = true }) (left_in loan (machine_in which w (words_of loan)).words) c) (let k : min (steps + 0) (2 ^ 64 - 1) ≡ steps = omega (arith, small) in k)
-      ∙ ap (λ (l : Option BucketWords). on (record { walk = w; space = space; steps = steps; running = true }) l c) (ap (left_in loan) (words_in which w (words_of loan)) ∙ left_is loan loan refl)
+      ∙ ap (λ (l : Option BucketWords). on (record { walk = w; space = space; steps = steps; running = true }) l c) (left_is loan loan refl)
 
   -- so it and what is done after it are a run
   pub runs_on : (c d f : S) (n i : ℕ) (exit : Exit) (m : Machine) (u : Walk) (left : Option BucketWords) (t : Turned) → w.place.phase ≡ pass_phase which → steps ≤ 2 ^ 64 - 1 →
-      IsTraversal (record { walk = w; space = space; steps = steps; running = true }) → place_of left ≡ place_of loan → t.want ≡ u.want →
+      IsTraversal (begun_at w space steps) → place_of left ≡ place_of loan → t.want ≡ u.want →
       (r : TimedTwice gives told (λ a b. rest given a b (walk_at which w Nothing i m) m.words exit) d f (turn u (words_of left) t.state)) →
       RunsLoop gives (setting_in given which w.sealed r.now) (pass_phase which) n i (record { machine = machine_in which w (words_of loan); index = w.place.index; core = c }) exit m d →
-      RunsOn gives counts told service input n (on (record { walk = w; space = space; steps = steps; running = true }) loan c)
-      (on (record { walk = u; space = space; steps = min (steps + suc n) (2 ^ 64 - 1); running = is_running t.state }) left f) t
+      RunsOn gives counts told service input n (on (begun_at w space steps) loan c)
+      (on (left_at u space steps (record { before = n; turned = t })) left f) t
   runs_on c d f n i exit m u left t e small is same wanted r l =
       let start : Here S = record { machine = machine_in which w (words_of loan); index = w.place.index; core = c } in
       let begins = begins_at c e small in
       let end : Here S = record { machine = l.machine; index = i; core = l.then } in
-      let first : Stands 0 start start = record { chain = refl; rooms = subst (λ (x : On S). IsTraversal x.traversal) (sym begins) is; long = ap length (words_in which w (words_of loan)) } in
+      let first : Stands 0 start start = record { chain = refl; rooms = subst (λ (x : On S). IsTraversal x.traversal) (sym begins) is; long = refl } in
       let stands = stands_on r.now r.answer n start end first l.chain in
       let from = walk_at which w (want_at n) i l.machine in
       let bare : TimedTwice gives told (λ a b. turn_tree given a b from l.machine.words) l.then f (turn u (words_of left) t.state) =
       record { now = r.now; later = r.later; answer = r.answer; answer_later = r.answer_later; runs = leaves_turn gives given r.now r.later which w (want_at n) end exit m d f (turn u (words_of left) t.state) l.leaves r.runs } in
-      subst (λ (x : On S). RunsOn gives counts told service input n x (on (record { walk = u; space = space; steps = min (steps + suc n) (2 ^ 64 - 1); running = is_running t.state }) left f) t) begins (record {
+      subst (λ (x : On S). RunsOn gives counts told service input n x (on (left_at u space steps (record { before = n; turned = t })) left f) t) begins (record {
         last = on_at n end;
         chain = stands.chain;
-        makes = makes_one gives counts law told service input (on_at n end) (on (record { walk = u; space = space; steps = min (steps + suc n) (2 ^ 64 - 1); running = is_running t.state }) left f) t
+        makes = makes_one gives counts law told service input (on_at n end) (on (left_at u space steps (record { before = n; turned = t })) left f) t
             (turns_from from l.machine.words l.then f (turn u (words_of left) t.state) stands.long bare) wanted (same ∙ sym (left_place loan l.machine.words)) refl (omega arith) refl stands.rooms (fits_at n end);
       })
+
+  -- the same, as the code has it
+  pub run_pass : (c d f : S) (n i : ℕ) (exit : Exit) (q : PassState) (log : Kept Change) (mid : Option BucketWords) (u : Walk) (left : Option BucketWords) (t : Turned) → w.place.phase ≡ pass_phase which → steps < 2 ^ 64 →
+      IsTraversal (begun_at w space steps) → q.space ≡ (pass_in which w).space → (pass_in which w).space ≡ space → place_of mid ≡ place_of loan → place_of left ≡ place_of mid → t.want ≡ u.want →
+      ((g : Setting) (notes : Notes) → g.statements ≡ service.statements → g.budget ≡ (pass_in which w).space.budget →
+      RunsLoop gives g (pass_phase which) n i (record { machine = machine_of (pass_in which w) (words_of loan) (log_in which w) notes; index = w.place.index; core = c }) exit (machine_of q (words_of mid) log notes) d) →
+      TimedTwice gives told (λ a b. rest (given_of service input space (bucket_of mid)) a b (walk_with which w i q log) (words_of mid) exit) d f (turn u (words_of left) t.state) →
+      RunsOn gives counts told service input n (on (begun_at w space steps) loan c) (on (left_at u space steps (record { before = n; turned = t })) left f) t
+  run_pass c d f n i exit q log mid u left t e small is same here placed last wanted ran r =
+      let z = turn u (words_of left) t.state in
+      let lent = subst (λ (k : Option ℕ). TimedTwice gives told (λ a b. rest (given_of service input space k) a b (walk_with which w i q log) (words_of mid) exit) d f z) (same_bucket mid loan placed) r in
+      let on_machine = subst (λ (v : Walk). TimedTwice gives told (λ a b. rest given a b v (words_of mid) exit) d f z) (walk_again which w i q (words_of mid) log same) lent in
+      runs_on c d f n i exit (machine_of q (words_of mid) log w.notes) u left t e (omega (arith, small)) is (last ∙ placed) wanted on_machine
+      (ran (setting_in given which w.sealed on_machine.now) w.notes refl (ap (λ (k : PassSpace). k.budget) (sym here)))
+
+-- the same of other names for where it begins and ends
+pub run_counted : {S : Type 0} (gives : S → (q : Question) → Answer q → S → Type 0) (counts : S → Counts) (told : Option ℕ) (service : Service) (input : List ℕ) (n : ℕ) (x y z u : On S) (t : Turned) →
+    x ≡ y → z ≡ u → RunsOn gives counts told service input n x z t → RunsOn gives counts told service input n y u t
+run_counted {S} gives counts told service input n x y z u t e f r =
+    subst (λ (a : On S). RunsOn gives counts told service input n a u t) e (subst (λ (b : On S). RunsOn gives counts told service input n x b t) f r)

@@ -1,5 +1,5 @@
 -- Many steps of a traversal.
-use Rattle.std.specs.Prelude.{◌≡◌, ℕ, ◌-◌, ◌^◌, ◌≤◌, List, Option, min}
+use Rattle.std.specs.Prelude.{◌≡◌, ℕ, suc, ◌+◌, ◌-◌, ◌^◌, ◌≤◌, true, List, Option, min}
 use Rattle.sei_fault.specs.Chain.{Chain}
 use Rattle.sei_fault.specs.Counts.{Counts}
 use Rattle.sei_fault.specs.Question.{Question, Answer}
@@ -9,6 +9,8 @@ use Rattle.sei_words.specs.Loan.{words_of, bucket_of, place_of}
 use Rattle.sei_words.specs.Words.{BucketWords}
 use Rattle.sei_pass.specs.declared.loops.Exit.{Exit}
 use Rattle.sei_pass.specs.declared.loops.Exit.TheVariants.{At, Halted, Bad, Struck, Alone}
+use Rattle.sei_pass.specs.declared.spaces.PassSpace.{PassSpace}
+use Rattle.sei_traverse.specs.declared.turned.Many.{Many}
 use Rattle.sei_traverse.specs.declared.turned.State.TheVariants.{Went}
 use Rattle.sei_traverse.specs.declared.turned.Turned.{Turned}
 use Rattle.sei_traverse.specs.declared.turned.Want.TheVariants.{Nothing}
@@ -54,6 +56,14 @@ pub record RunsOn {S : Type 0} (gives : S → (q : Question) → Answer q → S 
   pub last : On S
   pub chain : Chain (Quiet gives counts told service input) n x last
   pub makes : Makes gives counts told service input last z t
+
+-- a traversal on this walk, which goes on
+abbrev pub begun_at : Walk → PassSpace → ℕ → TraversalState
+begun_at w space steps = record { walk = w; space = space; steps = steps; running = true }
+
+-- the same after a run
+abbrev pub left_at : Walk → PassSpace → ℕ → Many → TraversalState
+left_at w space steps many = record { walk = w; space = space; steps = min (steps + suc many.before) (2 ^ 64 - 1); running = is_running many.turned.state }
 
 -- what is left to do of a step of a pass if the loop over its steps left it so. The place is still that of the step
 abbrev pub rest : Given → ℕ → ℕ → Walk → List ℕ → Exit → Tree Turn

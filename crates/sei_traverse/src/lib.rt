@@ -8,6 +8,7 @@ mod laws;
 mod opening;
 mod passing;
 mod restoring;
+mod running;
 mod stepping;
 #[cfg(test)]
 mod tests;
@@ -21,4 +22,4 @@ pub use laws::{
     traversals_are_on_their_way, traversals_end, wants_come_once,
 };
 pub use traversal::{Traversal, most_steps};
-pub use turned::{Abort, State, Turned, Want};
+pub use turned::{Abort, Many, State, Turned, Want};

@@ -16,7 +16,7 @@ use sei_pass::{PassSpace, Slots};
 use sei_stmt::Handler;
 
 /// The phase behind this one; behind the last one there is none.
-fn next_phase(phase: Phase) -> Phase
+pub fn next_phase(phase: Phase) -> Phase
     ensures { result ≡ next_phase phase }
 {
     match phase {
@@ -51,7 +51,7 @@ fn is_end(place: Place) -> bool
 }
 
 /// How a step ends that arrives at this place, with so many closed phases.
-fn arrive(phase: Phase, place: Place, done: u64) -> State
+pub fn arrive(phase: Phase, place: Place, done: u64) -> State
     ensures { result ≡ arrival phase place done }
 {
     if is_end(place) {
@@ -120,7 +120,7 @@ impl Walk {
     }
 
     /// Where a step goes on whose act was left out.
-    fn skipped(&self, act: Act) -> Place
+    pub fn skipped(&self, act: Act) -> Place
         requires walk { IsWalk self.now }
         requires index { self.now.place.index + 1 < 2 ^ 64 }
         ensures { result ≡ skipped self.now act }
@@ -141,7 +141,7 @@ impl Walk {
 
     /// Asks where to go on, and goes there.
     #[inline(always)]
-    fn go<K: Core>(&mut self, to: Place, core: &mut K) -> State
+    pub fn go<K: Core>(&mut self, to: Place, core: &mut K) -> State
         ensures gone { (words : List ℕ) → Runs K.gives (goes self.old words to) core.old core.new (turn self.new words result) }
         ensures stays { Stays self.old self.new }
     {
@@ -152,7 +152,7 @@ impl Walk {
 
     /// Goes on behind an act, unless that ended the traversal.
     #[inline(always)]
-    fn go_on<K: Core>(&mut self, ending: Ending, core: &mut K) -> State
+    pub fn go_on<K: Core>(&mut self, ending: Ending, core: &mut K) -> State
         ensures gone { (words : List ℕ) → Runs K.gives (goes_from self.old words ending) core.old core.new (turn self.new words result) }
         ensures stays { Stays self.old self.new }
     {
@@ -168,7 +168,7 @@ impl Walk {
 
     /// Does the act of the step, and goes on.
     #[inline(always)]
-    fn once<H: Handler, L: Slots, K: Core, C: Clock>(
+    pub fn once<H: Handler, L: Slots, K: Core, C: Clock>(
         &mut self,
         hands: &H,
         input: &[u8],
@@ -194,7 +194,7 @@ impl Walk {
 
     /// Does the act of the step two times, unless the first one ended the traversal.
     #[inline(never)]
-    fn twice<H: Handler, L: Slots, K: Core, C: Clock>(
+    pub fn twice<H: Handler, L: Slots, K: Core, C: Clock>(
         &mut self,
         hands: &H,
         input: &[u8],

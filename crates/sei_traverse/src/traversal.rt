@@ -13,12 +13,12 @@ ghost use Rattle.sei_traverse.specs.Errand.{Errand, IsErrand};
 ghost use Rattle.sei_traverse.specs.Facts.{Facts, LendsWanted, Isolates};
 ghost use Rattle.sei_traverse.specs.OnWay.{lent_words, Lends, TellsAs, OnWay, StaysOnWay, IsUnfit};
 ghost use Rattle.sei_traverse.specs.Phases.{reply_of};
-ghost use Rattle.sei_traverse.specs.Running.{on, Makes};
+ghost use Rattle.sei_traverse.specs.Running.{on, Makes, RunsOn};
 ghost use Rattle.sei_traverse.specs.Service.{service_of, given_of};
 ghost use Rattle.sei_traverse.specs.State.{begun_traversal, noted_time};
 ghost use Rattle.sei_traverse.specs.Trusted.{IsTrusted};
 
-use crate::turned::{State, Turned, Want};
+use crate::turned::{Many, State, Turned, Want};
 use crate::walk::{NO_NOTES, Walk};
 use mc_model::Geometry;
 use sei_code::{Buffer, Coded, Memory, Mode};
@@ -246,5 +246,50 @@ impl Traversal {
             want: self.walk.want,
             state,
         }
+    }
+
+    /// Makes one step or more, each as `step` does. In a pass it goes on up to the first step that wants
+    /// something, leads out of the pass or ends the traversal, or whose statement is a rare one (`Now`,
+    /// `Alloc`, `Parse` or `Render`). In the other phases it makes one step.
+    pub fn run<H: Handler, K: Core, C: Clock>(
+        &mut self,
+        hands: &H,
+        input: &[u8],
+        lent: Option<&mut Words>,
+        core: &mut K,
+        clock: &C,
+    ) -> Many
+        requires running { self.old.running ≡ true }
+        requires room { length (parsed_words (sealed_call (H.parsed hands.now input.now) self.old.walk.sealed.nth)) ≤ self.old.space.input }
+        requires lent { IsOf self.old.space.geometry (lent_at lent) }
+        // So many steps that want nothing, and one more: each is that of the definition, whatever the core answers.
+        ensures run { RunsOn K.gives K.counts (C.told clock.now) (service_of (H.statements hands.now) (H.call_count hands.now) (H.parsed hands.now) (H.rendered hands.now)) input.now result.before
+            (on self.old (lent_at lent.entry) core.old) (on self.new (lent_left lent.exit) core.new) result.turned }
+    {
+        match lent {
+            None => self.run_on(hands, input, &mut NoBucket, core, clock),
+            Some(words) => self.run_on(hands, input, words, core, clock),
+        }
+    }
+
+    /// The same steps, on what is lent.
+    fn run_on<H: Handler, L: Slots, K: Core, C: Clock>(
+        &mut self,
+        hands: &H,
+        input: &[u8],
+        lent: &mut L,
+        core: &mut K,
+        clock: &C,
+    ) -> Many
+        requires running { self.old.running ≡ true }
+        requires room { length (parsed_words (sealed_call (H.parsed hands.now input.now) self.old.walk.sealed.nth)) ≤ self.old.space.input }
+        requires lent { IsOf self.old.space.geometry (L.loan lent.old) }
+        ensures run { RunsOn K.gives K.counts (C.told clock.now) (service_of (H.statements hands.now) (H.call_count hands.now) (H.parsed hands.now) (H.rendered hands.now)) input.now result.before
+            (on self.old (L.loan lent.old) core.old) (on self.new (L.loan lent.new) core.new) result.turned }
+    {
+        let many = self.walk.run(hands, input, &self.space, lent, core, clock);
+        self.steps = self.steps.saturating_add(many.before).saturating_add(1);
+        self.running = many.turned.state == State::Went;
+        many
     }
 }

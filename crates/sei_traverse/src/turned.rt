@@ -51,3 +51,13 @@ pub struct Turned {
     /// Whether the traversal goes on.
     pub state: State,
 }
+
+/// How many steps at once turned out.
+#[derive(Clone, Copy, Debug, PartialEq, Eq)]
+pub struct Many {
+    /// How many steps were made before the last one. None of them wanted anything or ended the
+    /// traversal.
+    pub before: u64,
+    /// How the last one turned out.
+    pub turned: Turned,
+}

@@ -1,0 +1,221 @@
+//! Many steps of a traversal at once.
+ghost use Rattle.std.specs.Prelude.{◌≡◌, ℕ, ◌+◌, ◌<◌, ◌≤◌, ◌^◌, List, length};
+ghost use Rattle.sei_fault.specs.Tree.{Runs, bound};
+ghost use Rattle.sei_stmt.specs.Handling.{parsed_words};
+ghost use Rattle.sei_words.specs.Loan.{words_of, bucket_of, place_of, IsOf};
+ghost use Rattle.sei_pass.specs.Loop.{HasIndexAfter};
+ghost use Rattle.sei_pass.specs.Setting.{sealed_call};
+ghost use Rattle.sei_traverse.specs.Acts.{at, closes};
+ghost use Rattle.sei_traverse.specs.Running.{on, rest, RunsOn, begun_at, left_at};
+ghost use Rattle.sei_traverse.specs.Service.{service_of, given_of};
+ghost use Rattle.sei_traverse.specs.Step.{next_phase, goes_on, turn, TimedTwice};
+ghost use Rattle.sei_traverse.specs.Walks.{IsWalk, Stays};
+
+use crate::stepping::{arrive, next_phase};
+use crate::turned::{Abort, Many, State, Turned, Want};
+use crate::walk::Walk;
+use sei_fault::{Core, Phase, Place, Times};
+use sei_outside::Clock;
+use sei_pass::{Exit, PassSpace, Slots};
+use sei_stmt::Handler;
+
+impl Walk {
+    /// Closes the phase of a pass, and goes on to the next phase.
+    fn halt<K: Core>(&mut self, core: &mut K) -> State
+        ensures halted { (words : List ℕ) → Runs K.gives (bound (closes self.old.place.phase self.old words Want.Nothing (at (next_phase self.old.place.phase) 0)) goes_on) core.old core.new (turn self.new words result) }
+        ensures stays { Stays self.old self.new }
+    {
+        let phase = self.place.phase;
+        let to = Place {
+            phase: next_phase(phase),
+            index: 0,
+        };
+        let ending = self.close(phase, Want::Nothing, to, core);
+        self.go_on(ending, core)
+    }
+
+    /// Does what is left to do of a step of a pass that the loop over its steps left so.
+    #[cold]
+    #[inline(never)]
+    fn rest<H: Handler, L: Slots, K: Core, C: Clock>(
+        &mut self,
+        exit: Exit,
+        hands: &H,
+        input: &[u8],
+        space: &PassSpace,
+        lent: &mut L,
+        core: &mut K,
+        clock: &C,
+    ) -> State
+        requires walk { IsWalk self.old }
+        requires space { self.old.first.space ≡ space.now }
+        requires room { length (parsed_words (sealed_call (H.parsed hands.now input.now) self.old.sealed.nth)) ≤ space.now.input }
+        requires index { HasIndexAfter exit self.old.place.index }
+        requires lent { IsOf space.now.geometry (L.loan lent.old) }
+        ensures rest { TimedTwice K.gives (C.told clock.now)
+            (λ now later. rest (given_of (service_of (H.statements hands.now) (H.call_count hands.now) (H.parsed hands.now) (H.rendered hands.now)) input.now space.now (bucket_of (L.loan lent.old))) now later self.old (words_of (L.loan lent.old)) exit)
+            core.old core.new (turn self.new (words_of (L.loan lent.new)) result) }
+        ensures lent { place_of (L.loan lent.new) ≡ place_of (L.loan lent.old) }
+        ensures stays { Stays self.old self.new }
+    {
+        match exit {
+            Exit::At(place) => {
+                let phase = self.place.phase;
+                self.place = place;
+                arrive(phase, place, self.gate.done)
+            }
+            Exit::Halted => self.halt(core),
+            Exit::Bad(cause) => State::Aborted(Abort {
+                phase: self.place.phase,
+                cause,
+            }),
+            Exit::Struck(act, times) => match times {
+                Times::Once => self.once(hands, input, space, lent, core, clock),
+                Times::Skip => {
+                    let to = self.skipped(act);
+                    self.go(to, core)
+                }
+                Times::Twice => self.twice(hands, input, space, lent, core, clock),
+            },
+            Exit::Alone => self.step(hands, input, space, lent, core, clock),
+        }
+    }
+
+    /// Makes the steps of the first pass, up to the first that does not lead on in it.
+    fn run_first<H: Handler, L: Slots, K: Core, C: Clock>(
+        &mut self,
+        hands: &H,
+        input: &[u8],
+        space: &PassSpace,
+        lent: &mut L,
+        core: &mut K,
+        clock: &C,
+    ) -> Many
+        requires walk { IsWalk self.old }
+        requires space { self.old.first.space ≡ space.now }
+        requires room { length (parsed_words (sealed_call (H.parsed hands.now input.now) self.old.sealed.nth)) ≤ space.now.input }
+        requires lent { IsOf space.now.geometry (L.loan lent.old) }
+        requires first { self.old.place.phase ≡ Phase.First }
+        ensures run { (steps : ℕ) → steps < 2 ^ 64 →
+            RunsOn K.gives K.counts (C.told clock.now) (service_of (H.statements hands.now) (H.call_count hands.now) (H.parsed hands.now) (H.rendered hands.now)) input.now result.before
+            (on (begun_at self.old space.now steps) (L.loan lent.old) core.old) (on (left_at self.new space.now steps result) (L.loan lent.new) core.new) result.turned }
+        ensures stays { Stays self.old self.new }
+    {
+        self.want = Want::Nothing;
+        let from = self.place.index;
+        let ran = self
+            .first
+            .run_on(Phase::First, hands, lent, &mut self.first_log, core, from);
+        self.place = Place {
+            phase: Phase::First,
+            index: ran.index,
+        };
+        let state = self.rest(ran.exit, hands, input, space, lent, core, clock);
+        Many {
+            before: ran.before,
+            turned: Turned {
+                want: self.want,
+                state,
+            },
+        }
+    }
+
+    /// Makes the steps of the second pass, up to the first that does not lead on in it.
+    fn run_second<H: Handler, L: Slots, K: Core, C: Clock>(
+        &mut self,
+        hands: &H,
+        input: &[u8],
+        space: &PassSpace,
+        lent: &mut L,
+        core: &mut K,
+        clock: &C,
+    ) -> Many
+        requires walk { IsWalk self.old }
+        requires space { self.old.first.space ≡ space.now }
+        requires room { length (parsed_words (sealed_call (H.parsed hands.now input.now) self.old.sealed.nth)) ≤ space.now.input }
+        requires lent { IsOf space.now.geometry (L.loan lent.old) }
+        requires second { self.old.place.phase ≡ Phase.Second }
+        ensures run { (steps : ℕ) → steps < 2 ^ 64 →
+            RunsOn K.gives K.counts (C.told clock.now) (service_of (H.statements hands.now) (H.call_count hands.now) (H.parsed hands.now) (H.rendered hands.now)) input.now result.before
+            (on (begun_at self.old space.now steps) (L.loan lent.old) core.old) (on (left_at self.new space.now steps result) (L.loan lent.new) core.new) result.turned }
+        ensures stays { Stays self.old self.new }
+    {
+        self.want = Want::Nothing;
+        let from = self.place.index;
+        let ran = self.second.run_on(Phase::Second, hands, lent, &mut self.second_log, core, from);
+        self.place = Place {
+            phase: Phase::Second,
+            index: ran.index,
+        };
+        let state = self.rest(ran.exit, hands, input, space, lent, core, clock);
+        Many {
+            before: ran.before,
+            turned: Turned {
+                want: self.want,
+                state,
+            },
+        }
+    }
+
+    /// Makes one step, of a phase that has no loop.
+    fn run_one<H: Handler, L: Slots, K: Core, C: Clock>(
+        &mut self,
+        hands: &H,
+        input: &[u8],
+        space: &PassSpace,
+        lent: &mut L,
+        core: &mut K,
+        clock: &C,
+    ) -> Many
+        requires walk { IsWalk self.old }
+        requires space { self.old.first.space ≡ space.now }
+        requires room { length (parsed_words (sealed_call (H.parsed hands.now input.now) self.old.sealed.nth)) ≤ space.now.input }
+        requires lent { IsOf space.now.geometry (L.loan lent.old) }
+        ensures run { (steps : ℕ) → steps < 2 ^ 64 →
+            RunsOn K.gives K.counts (C.told clock.now) (service_of (H.statements hands.now) (H.call_count hands.now) (H.parsed hands.now) (H.rendered hands.now)) input.now result.before
+            (on (begun_at self.old space.now steps) (L.loan lent.old) core.old) (on (left_at self.new space.now steps result) (L.loan lent.new) core.new) result.turned }
+        ensures stays { Stays self.old self.new }
+    {
+        let state = self.step(hands, input, space, lent, core, clock);
+        Many {
+            before: 0,
+            turned: Turned {
+                want: self.want,
+                state,
+            },
+        }
+    }
+
+    /// Makes the steps of a pass up to the first that does not lead on in it, and of the other phases
+    /// one step.
+    #[inline(always)]
+    pub fn run<H: Handler, L: Slots, K: Core, C: Clock>(
+        &mut self,
+        hands: &H,
+        input: &[u8],
+        space: &PassSpace,
+        lent: &mut L,
+        core: &mut K,
+        clock: &C,
+    ) -> Many
+        requires walk { IsWalk self.old }
+        requires space { self.old.first.space ≡ space.now }
+        requires room { length (parsed_words (sealed_call (H.parsed hands.now input.now) self.old.sealed.nth)) ≤ space.now.input }
+        requires lent { IsOf space.now.geometry (L.loan lent.old) }
+        ensures run { (steps : ℕ) → steps < 2 ^ 64 →
+            RunsOn K.gives K.counts (C.told clock.now) (service_of (H.statements hands.now) (H.call_count hands.now) (H.parsed hands.now) (H.rendered hands.now)) input.now result.before
+            (on (begun_at self.old space.now steps) (L.loan lent.old) core.old) (on (left_at self.new space.now steps result) (L.loan lent.new) core.new) result.turned }
+        ensures stays { Stays self.old self.new }
+    {
+        match self.place.phase {
+            Phase::First => self.run_first(hands, input, space, lent, core, clock),
+            Phase::Second => self.run_second(hands, input, space, lent, core, clock),
+            Phase::Guard | Phase::Take | Phase::Restore | Phase::Compare => {
+                self.run_one(hands, input, space, lent, core, clock)
+            }
+            Phase::Verify | Phase::Enter | Phase::Give | Phase::Send | Phase::Done => {
+                self.run_one(hands, input, space, lent, core, clock)
+            }
+        }
+    }
+}
