@@ -51,3 +51,4 @@ pub mod PublicLoans
 pub mod Making
 pub mod Lift
 pub mod Resting
+pub mod PublicRuns

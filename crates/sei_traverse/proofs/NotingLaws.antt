@@ -68,7 +68,7 @@ module _ (told : Option ℕ) where
   notes_step g i m answer = by_statement g i m (Always (NotesOf m)) (λ cause. Same refl) (λ s e b. notes g i (one_made m) s answer)
 
   -- what is noted in two pieces of work, one behind the other
-  behind : (a b c : Option Coded) → NotesTime told a b → NotesTime told b c → NotesTime told a c
+  pub behind : (a b c : Option Coded) → NotesTime told a b → NotesTime told b c → NotesTime told a c
   behind a b c h (Noted time answer e) = Noted time answer e
   behind a b c (Same e) (Same f) = Same (f ∙ e)
   behind a b c (Noted time answer e) (Same f) = Noted time answer (f ∙ e)

@@ -1,14 +1,18 @@
 //! Laws of the definitions, each the clause of a function that does nothing.
-ghost use Rattle.std.specs.Prelude.{◌≡◌, ℕ, ◌+◌, ◌*◌, ◌≤◌, List, [], Option, Some, None};
+ghost use Rattle.std.specs.Prelude.{◌≡◌, ℕ, suc, ◌+◌, ◌-◌, ◌*◌, ◌^◌, ◌≤◌, List, [], ◌∷◌, ◌++◌, replicate, min, Option, Some, None};
 ghost use Rattle.sei_fault.specs.Counts.{Counts};
 ghost use Rattle.sei_fault.specs.declared.place.Phase.{Phase};
 ghost use Rattle.sei_pass.specs.declared.spaces.PassSpace.{PassSpace};
 ghost use Rattle.sei_pass.specs.declared.given.Sealed.{Sealed};
-ghost use Rattle.sei_traverse.specs.Bounds.{most_steps, StepsWithin};
+ghost use Rattle.sei_words.specs.Loan.{place_of};
+ghost use Rattle.sei_traverse.specs.Bounds.{most_steps, StepsWithin, StepsAfter};
 ghost use Rattle.sei_traverse.specs.Errand.{Errand, IsErrand};
-ghost use Rattle.sei_traverse.specs.Facts.{Facts};
-ghost use Rattle.sei_traverse.specs.OnWay.{OnWay, AtEnd};
+ghost use Rattle.sei_traverse.specs.Facts.{Facts, LendsWanted, Isolates};
+ghost use Rattle.sei_traverse.specs.Noting.{NotesTime};
+ghost use Rattle.sei_traverse.specs.OnWay.{lent_words, Lends, TellsAs, OnWay, StaysOnWay, AtEnd};
 ghost use Rattle.sei_traverse.specs.Phases.{reply_of};
+ghost use Rattle.sei_traverse.specs.Running.{On, RunsOn};
+ghost use Rattle.sei_traverse.specs.Service.{Service};
 ghost use Rattle.sei_traverse.specs.Served.{IsServed, HasReply};
 ghost use Rattle.sei_traverse.specs.Sound.{IsServedBy, IsModelAnswer};
 ghost use Rattle.sei_traverse.specs.State.{TraversalState, IsTraversal, begun_traversal};
@@ -16,9 +20,11 @@ ghost use Rattle.sei_traverse.specs.Struck.{IsHonestResult};
 ghost use Rattle.sei_traverse.specs.Trusted.{IsTrusted, PassesGuard};
 ghost use Rattle.sei_traverse.specs.Wanting.{Steps, WantsOnce, wanted_in, all_wants};
 ghost use Rattle.sei_traverse.specs.declared.turned.State.{State};
+ghost use Rattle.sei_traverse.specs.declared.turned.Turned.{Turned};
 ghost use Rattle.sei_traverse.specs.declared.turned.Want.{Want};
 ghost use Rattle.sei_traverse.specs.declared.walk.Walk.{Walk};
 
+use sei_fault::Core;
 use sei_stmt::Modeled;
 
 /// A traversal that begins for an errand is on its way. It stays so where the words that were taken
@@ -62,6 +68,41 @@ pub fn wants_come_once()
     ensures finished { (e : Errand) (begin : Counts) (wants : List Want) (t : TraversalState) → Steps e begin wants t State.Finished →
         wanted_in wants ≡ all_wants e.call.bucket (reply_of t.walk) }
     ensures refused { (e : Errand) (begin : Counts) (wants : List Want) (t : TraversalState) → Steps e begin wants t State.Refused → wanted_in wants ≡ [] }
+{}
+
+/// What each step keeps, a run of many steps keeps: what is sealed, the space and the place of what is
+/// lent. Its steps are counted; it notes no other time than the clock's; and no question is taken back
+/// over it, nor a strike, nor fall more strikes than there is room for.
+pub fn runs_keep_what_steps_keep<K: Core>()
+    ensures sealed { (told : Option ℕ) (service : Service) (input : List ℕ) (n : ℕ) (x z : On K) (t : Turned) → RunsOn K.gives K.counts told service input n x z t → z.traversal.walk.sealed ≡ x.traversal.walk.sealed }
+    ensures space { (told : Option ℕ) (service : Service) (input : List ℕ) (n : ℕ) (x z : On K) (t : Turned) → RunsOn K.gives K.counts told service input n x z t → z.traversal.space ≡ x.traversal.space }
+    ensures lent { (told : Option ℕ) (service : Service) (input : List ℕ) (n : ℕ) (x z : On K) (t : Turned) → RunsOn K.gives K.counts told service input n x z t → place_of z.lent ≡ place_of x.lent }
+    ensures steps { (told : Option ℕ) (service : Service) (input : List ℕ) (n : ℕ) (x z : On K) (t : Turned) → RunsOn K.gives K.counts told service input n x z t →
+        x.traversal.steps ≤ 2 ^ 64 - 1 → z.traversal.steps ≡ min (x.traversal.steps + suc n) (2 ^ 64 - 1) }
+    ensures noted { (told : Option ℕ) (service : Service) (input : List ℕ) (n : ℕ) (x z : On K) (t : Turned) → RunsOn K.gives K.counts told service input n x z t → NotesTime told x.traversal.walk.notes.now z.traversal.walk.notes.now }
+    ensures asked { (told : Option ℕ) (service : Service) (input : List ℕ) (n : ℕ) (x z : On K) (t : Turned) → RunsOn K.gives K.counts told service input n x z t → min (K.counts x.core).asked (2 ^ 128 - 1) ≤ (K.counts z.core).asked }
+    ensures struck { (told : Option ℕ) (service : Service) (input : List ℕ) (n : ℕ) (x z : On K) (t : Turned) → RunsOn K.gives K.counts told service input n x z t → (K.counts x.core).struck ≤ (K.counts z.core).struck }
+    ensures room { (told : Option ℕ) (service : Service) (input : List ℕ) (n : ℕ) (x z : On K) (t : Turned) → RunsOn K.gives K.counts told service input n x z t →
+        (r : ℕ) → (K.counts x.core).room ≡ Some r → (s : ℕ) × ((K.counts z.core).room ≡ Some s) × ((K.counts z.core).struck + s ≡ (K.counts x.core).struck + r) }
+{}
+
+/// A run of many steps goes as its steps do. With one strike at most its steps are bounded. From a
+/// traversal that is on its way, its last step stays on it; and from one that at most one strike has
+/// struck, its last step is isolated. All its steps are steps of the traversal, of which only the last
+/// may want anything.
+pub fn runs_go_as_steps_go<K: Core>()
+    ensures within { (told : Option ℕ) (service : Service) (input : List ℕ) (n : ℕ) (x z : On K) (t : Turned) → RunsOn K.gives K.counts told service input n x z t →
+        (begin : Counts) → IsTraversal x.traversal → StepsWithin x.traversal begin (K.counts x.core) → StepsAfter z.traversal begin (K.counts z.core) t.state }
+    ensures on_way { (told : Option ℕ) (service : Service) (input : List ℕ) (n : ℕ) (x z : On K) (t : Turned) (r : RunsOn K.gives K.counts told service input n x z t) (e : Errand) (begin : Counts) →
+        IsErrand e → TellsAs e.clock told → e.service ≡ service → e.input ≡ input → Lends e x.traversal.walk.place.phase x.lent → OnWay e x.traversal (lent_words x.lent) begin (K.counts x.core) →
+        StaysOnWay e r.last.traversal z.traversal (lent_words z.lent) begin (K.counts z.core) t.want t.state }
+    ensures isolated { (told : Option ℕ) (service : Service) (input : List ℕ) (n : ℕ) (x z : On K) (t : Turned) (r : RunsOn K.gives K.counts told service input n x z t) (e : Errand) (begin : Counts) →
+        IsTrusted e → TellsAs e.clock told → e.service ≡ service → e.input ≡ input → LendsWanted x.traversal.walk x.lent → Facts e x.traversal (lent_words x.lent) begin (K.counts x.core) →
+        (K.counts z.core).struck ≤ begin.struck + 1 → Isolates e r.last.traversal z.traversal r.last.lent z.lent begin (K.counts z.core) t.want t.state }
+    ensures wanted { (told : Option ℕ) (service : Service) (input : List ℕ) (n : ℕ) (x z : On K) (t : Turned) (r : RunsOn K.gives K.counts told service input n x z t) (e : Errand) (begin : Counts) →
+        IsTrusted e → TellsAs e.clock told → e.service ≡ service → e.input ≡ input → LendsWanted x.traversal.walk x.lent → Facts e x.traversal (lent_words x.lent) begin (K.counts x.core) →
+        (K.counts z.core).struck ≤ begin.struck + 1 → (wants : List Want) → Steps e begin wants x.traversal State.Went →
+        Steps e begin ((wants ++ replicate n Want.Nothing) ++ t.want ∷ []) z.traversal t.state }
 {}
 
 /// With one strike at most since it began, a traversal makes no more steps than its bound, whatever

@@ -1,0 +1,255 @@
+-- What holds of each step, holds over a run of many steps.
+use Rattle.std.proofs.Common.{◌≡◌, ◌⊎◌, inl, inr, ℕ, zero, suc, ◌+◌, ◌-◌, ◌^◌, ◌≤◌, ◌<◌, List, [], ◌∷◌, ◌++◌, Option, Some, None, refl, sym, ap, ◌∙◌, subst, arith, append_assoc}
+use Rattle.std.specs.Prelude.{min, replicate}
+use Rattle.std.proofs.lemmas.List.{append-nil}
+use Rattle.sei_fault.specs.Chain.{Chain}
+use Rattle.sei_fault.specs.Counts.{Counts, Answered}
+use Rattle.sei_fault.specs.declared.place.Phase.{Phase}
+use Rattle.sei_fault.specs.declared.place.Phase.TheVariants.{Guard, Take, First, Restore, Second, Compare, Verify, Enter, Give, Send, Done}
+use Rattle.sei_fault.specs.Question.{Question, Answer, honestly_to}
+use Rattle.sei_fault.proofs.PublicChains.{chain_keeps, chain_relates, chain_isolates}
+use Rattle.sei_words.specs.Loan.{words_of, bucket_of, place_of}
+use Rattle.sei_words.specs.Words.{BucketWords}
+use Rattle.sei_traverse.specs.declared.turned.State.{State}
+use Rattle.sei_traverse.specs.declared.turned.State.TheVariants.{Went, Finished, Refused, Aborted}
+use Rattle.sei_traverse.specs.declared.turned.Turned.{Turned}
+use Rattle.sei_traverse.specs.declared.turned.Want.{Want}
+use Rattle.sei_traverse.specs.declared.turned.Want.TheVariants.{Nothing}
+use Rattle.sei_traverse.specs.declared.walk.Walk.{Walk}
+use Rattle.sei_traverse.specs.Bounds.{StepsWithin, StepsAfter}
+use Rattle.sei_traverse.specs.Errand.{Errand, IsErrand}
+use Rattle.sei_traverse.specs.Facts.{Facts, LendsWanted, Isolates}
+use Rattle.sei_traverse.specs.Noting.{NotesTime}
+use Rattle.sei_traverse.specs.Noting.NotesTime.{Same}
+use Rattle.sei_traverse.specs.OnWay.{lent_words, Lends, LendsBucketOf, TellsAs, OnWay, OnWayAfter, StaysOnWay}
+use Rattle.sei_traverse.specs.Running.{On, Makes, Quiet, RunsOn}
+use Rattle.sei_traverse.specs.Service.{Service, given_of, bucket_or_zero}
+use Rattle.sei_traverse.specs.State.{TraversalState, IsTraversal}
+use Rattle.sei_traverse.specs.Step.{turn, turn_tree}
+use Rattle.sei_traverse.specs.Trusted.{IsTrusted}
+use Rattle.sei_traverse.specs.Unstruck.{take_want, want_in, IsLent, NextIn}
+use Rattle.sei_traverse.specs.Wanting.{Steps}
+use Rattle.sei_traverse.specs.Wanting.Steps.{GoesOn}
+use Rattle.sei_traverse.proofs.Isolated.{isolates_one}
+use Rattle.sei_traverse.proofs.NotingLaws.{behind}
+use Rattle.sei_traverse.proofs.Onward.{stays_on_way_given}
+use Rattle.sei_traverse.proofs.StepsBound.{steps_after_turned, room_left_turned}
+use Rattle.sei_traverse.proofs.TurnLaws.{same_bucket}
+
+-- What is lent in the next phase.
+
+none_left : (loan left : Option BucketWords) → place_of left ≡ place_of loan → loan ≡ None → left ≡ None
+none_left loan None p h = refl
+none_left None (Some b) p h = absurd cc
+none_left (Some a) (Some b) p h = absurd cc
+
+bucket_left : (wanted : ℕ) (loan left : Option BucketWords) → place_of left ≡ place_of loan → LendsBucketOf wanted loan → LendsBucketOf wanted left
+bucket_left wanted None left p h = absurd h
+bucket_left wanted (Some a) None p h = absurd cc
+bucket_left wanted (Some a) (Some b) p h = ap bucket_or_zero (same_bucket (Some b) (Some a) p) ∙ h
+
+lent_in : (e : Errand) (left : Option BucketWords) (next : Phase) → IsLent next → LendsBucketOf e.call.bucket left → Lends e next left
+lent_in e left Guard i h = absurd i
+lent_in e left Take i h = absurd i
+lent_in e left First i h = h
+lent_in e left Restore i h = h
+lent_in e left Second i h = h
+lent_in e left Compare i h = h
+lent_in e left Verify i h = h
+lent_in e left Enter i h = h
+lent_in e left Give i h = h
+lent_in e left Send i h = absurd i
+lent_in e left Done i h = absurd i
+
+-- after a step that wants nothing, where no strike fell
+module _ (e : Errand) (w : Walk) (loan left : Option BucketWords) (next : Phase) (place : place_of left ≡ place_of loan) where
+  still_none : (to : Phase) → loan ≡ None → (left ≡ None → Lends e to left) → next ≡ to → Lends e next left
+  still_none to h lends is = subst (λ (p : Phase). Lends e p left) (sym is) (lends (none_left loan left place h))
+
+  take_next : (index : ℕ) → loan ≡ None → Nothing ≡ take_want e index → NextIn Take index next → Lends e next left
+  take_next zero h nothing to = still_none Take h (λ k. k) to
+  take_next (suc index) h nothing to = absurd cc
+
+  lends_on : (p : Phase) → Lends e p loan → Nothing ≡ want_in e w p → NextIn p w.place.index next → Lends e next left
+  lends_on Guard h nothing to = still_none Take h (λ k. k) to
+  lends_on Take h nothing to = take_next w.place.index h nothing to
+  lends_on First h nothing to = lent_in e left next to (bucket_left e.call.bucket loan left place h)
+  lends_on Restore h nothing to = lent_in e left next to (bucket_left e.call.bucket loan left place h)
+  lends_on Second h nothing to = lent_in e left next to (bucket_left e.call.bucket loan left place h)
+  lends_on Compare h nothing to = lent_in e left next to (bucket_left e.call.bucket loan left place h)
+  lends_on Verify h nothing to = lent_in e left next to (bucket_left e.call.bucket loan left place h)
+  lends_on Enter h nothing to = absurd cc
+  lends_on Give h nothing to = absurd cc
+  lends_on Send h nothing to = still_none Done h (λ k. k) to
+  lends_on Done h nothing to = still_none Done h (λ k. k) to
+
+-- where a strike fell, being on the way says no more
+struck_on_way : (e : Errand) (old new : TraversalState) (lent : Option (List ℕ)) (begin now : Counts) (want : Want) → begin.struck < now.struck → (state : State) → StaysOnWay e old new lent begin now want state
+struck_on_way e old new lent begin now want more state = record { goes = by state; wants = λ same. absurd (omega (arith, more, same)); next = λ same. absurd (omega (arith, more, same)) }
+  where
+    by : (o : State) → OnWayAfter e new lent begin now o
+    by Went = record { later = omega (arith, more); clean = λ same. absurd (omega (arith, more, same)) }
+    by Finished = record { later = omega (arith, more); clean = λ same. absurd (omega (arith, more, same)) }
+    by Refused = more
+    by (Aborted abort) = more
+
+same_or_more : (a b : ℕ) → a ≤ b → (b ≡ a) ⊎ (a < b)
+same_or_more a b h = grind (arith, h)
+
+-- n wants of nothing, and one more
+nothing_more : (n : ℕ) → replicate n Nothing ++ Nothing ∷ [] ≡ replicate (suc n) Nothing
+nothing_more zero = refl
+nothing_more (suc n) = ap (λ (ws : List Want). Nothing ∷ ws) (nothing_more n)
+
+one_more_quiet : (wants : List Want) (n : ℕ) → (wants ++ replicate n Nothing) ++ Nothing ∷ [] ≡ wants ++ replicate (suc n) Nothing
+one_more_quiet wants n = append_assoc wants (replicate n Nothing) (Nothing ∷ []) ∙ ap (λ (ws : List Want). wants ++ ws) (nothing_more n)
+
+module _ {S : Type 0} (gives : S → (q : Question) → Answer q → S → Type 0) (counts : S → Counts) (told : Option ℕ) (service : Service) (input : List ℕ) where
+  abbrev IsQuiet : On S → On S → Type 0
+  IsQuiet = Quiet gives counts told service input
+
+  abbrev IsRun : ℕ → On S → On S → Turned → Type 0
+  IsRun = RunsOn gives counts told service input
+
+  -- what goes from each step to the next, goes over a run
+  pub run_relates : (Relation : On S → On S → Type 0) (n : ℕ) (x z : On S) (t : Turned) → Relation x x → ((a b : On S) (s : Turned) → Makes gives counts told service input a b s → Relation x a → Relation x b) →
+      RunsOn gives counts told service input n x z t → Relation x z
+  run_relates Relation n x z t here on r = on r.last z t r.makes (chain_relates IsQuiet Relation n x r.last here (λ a b q. on a b (record { want = Nothing; state = Went }) q) r.chain)
+
+  pub run_sealed : (n : ℕ) (x z : On S) (t : Turned) → RunsOn gives counts told service input n x z t → z.traversal.walk.sealed ≡ x.traversal.walk.sealed
+  run_sealed n x z t = run_relates (λ a b. b.traversal.walk.sealed ≡ a.traversal.walk.sealed) n x z t refl (λ a b s m e. m.sealed ∙ e)
+
+  pub run_space : (n : ℕ) (x z : On S) (t : Turned) → RunsOn gives counts told service input n x z t → z.traversal.space ≡ x.traversal.space
+  run_space n x z t = run_relates (λ a b. b.traversal.space ≡ a.traversal.space) n x z t refl (λ a b s m e. m.space ∙ e)
+
+  pub run_lent : (n : ℕ) (x z : On S) (t : Turned) → RunsOn gives counts told service input n x z t → place_of z.lent ≡ place_of x.lent
+  run_lent n x z t = run_relates (λ a b. place_of b.lent ≡ place_of a.lent) n x z t refl (λ a b s m e. m.lent ∙ e)
+
+  -- the number of steps
+  chain_steps : (n : ℕ) (x z : On S) → x.traversal.steps ≤ 2 ^ 64 - 1 → Chain IsQuiet n x z → z.traversal.steps ≡ min (x.traversal.steps + n) (2 ^ 64 - 1)
+  chain_steps zero x z small e = ap (λ (y : On S). y.traversal.steps) e ∙ (let k : x.traversal.steps ≡ min (x.traversal.steps + 0) (2 ^ 64 - 1) = omega (arith, small) in k)
+  chain_steps (suc n) x z small (y, c, q) = omega (arith, q.steps, chain_steps n x y small c)
+
+  pub run_steps : (n : ℕ) (x z : On S) (t : Turned) → x.traversal.steps ≤ 2 ^ 64 - 1 → RunsOn gives counts told service input n x z t → z.traversal.steps ≡ min (x.traversal.steps + suc n) (2 ^ 64 - 1)
+  run_steps n x z t small r = omega (arith, r.makes.steps, chain_steps n x r.last small r.chain)
+
+  pub run_noted : (n : ℕ) (x z : On S) (t : Turned) → RunsOn gives counts told service input n x z t → NotesTime told x.traversal.walk.notes.now z.traversal.walk.notes.now
+  run_noted n x z t = run_relates (λ a b. NotesTime told a.traversal.walk.notes.now b.traversal.walk.notes.now) n x z t (Same refl)
+      (λ a b s m h. behind told x.traversal.walk.notes.now a.traversal.walk.notes.now b.traversal.walk.notes.now h m.noted)
+
+  pub run_asked : (n : ℕ) (x z : On S) (t : Turned) → RunsOn gives counts told service input n x z t → min (counts x.core).asked (2 ^ 128 - 1) ≤ (counts z.core).asked
+  run_asked n x z t = run_relates (λ a b. min (counts a.core).asked (2 ^ 128 - 1) ≤ (counts b.core).asked) n x z t (omega arith) (λ a b s m h. omega (arith, m.asked, h))
+
+  chain_struck : (n : ℕ) (x z : On S) → Chain IsQuiet n x z → (counts x.core).struck ≤ (counts z.core).struck
+  chain_struck n x z = chain_relates IsQuiet (λ a b. (counts a.core).struck ≤ (counts b.core).struck) n x z (omega arith) (λ a b q h. omega (arith, q.struck, h))
+
+  pub run_struck : (n : ℕ) (x z : On S) (t : Turned) → RunsOn gives counts told service input n x z t → (counts x.core).struck ≤ (counts z.core).struck
+  run_struck n x z t = run_relates (λ a b. (counts a.core).struck ≤ (counts b.core).struck) n x z t (omega arith) (λ a b s m h. omega (arith, m.struck, h))
+
+  module _ (law : (s : S) (q : Question) (a : Answer q) (t : S) → gives s q a t → Answered (a ≡ honestly_to q) (counts s) (counts t)) where
+    -- no more strikes fall than the room of the core allows
+
+    abbrev Lowers : On S → On S → Type 0
+    Lowers a b = (r : ℕ) → (counts a.core).room ≡ Some r → (s : ℕ) × ((counts b.core).room ≡ Some s) × ((counts b.core).struck + s ≡ (counts a.core).struck + r)
+
+    makes_room : (a b : On S) (s : Turned) → Makes gives counts told service input a b s → Lowers a b
+    makes_room a b s m r e =
+        room_left_turned gives counts law told (λ now later. turn_tree (given_of service input a.traversal.space (bucket_of a.lent)) now later a.traversal.walk (words_of a.lent)) a.core b.core (turn b.traversal.walk (words_of b.lent) s.state) m.turned r e
+
+    pub run_room : (n : ℕ) (x z : On S) (t : Turned) → RunsOn gives counts told service input n x z t → Lowers x z
+    run_room n x z t = run_relates Lowers n x z t (λ r e. (r, e, refl))
+        (λ a b s m h r e. let i = h r e in let j = makes_room a b s m i.0 i.1 in (j.0, j.1, j.2 ∙ i.2))
+
+    -- the number of steps stays bounded
+
+    makes_within : (begin : Counts) (a b : On S) (s : Turned) → Makes gives counts told service input a b s → IsTraversal a.traversal → StepsWithin a.traversal begin (counts a.core) → StepsAfter b.traversal begin (counts b.core) s.state
+    makes_within begin a b s m is within =
+        steps_after_turned gives counts law told (given_of service input a.traversal.space (bucket_of a.lent)) (words_of a.lent) (words_of b.lent) begin a.traversal b.traversal s.state a.core b.core m.turned is m.space m.steps within
+
+    abbrev IsWithin : Counts → On S → Type 0
+    IsWithin begin a = IsTraversal a.traversal × StepsWithin a.traversal begin (counts a.core)
+
+    pub run_within : (begin : Counts) (n : ℕ) (x z : On S) (t : Turned) → RunsOn gives counts told service input n x z t → IsTraversal x.traversal → StepsWithin x.traversal begin (counts x.core) → StepsAfter z.traversal begin (counts z.core) t.state
+    run_within begin n x z t r is within =
+        let last : IsWithin begin r.last = chain_keeps IsQuiet (IsWithin begin) n x r.last (λ a b q h. (q.rooms, makes_within begin a b (record { want = Nothing; state = Went }) q h.0 h.1)) r.chain (is, within) in
+        makes_within begin r.last z t r.makes last.0 last.1
+
+    module _ (e : Errand) (begin : Counts) (same_service : e.service ≡ service) (same_input : e.input ≡ input) (tells : TellsAs e.clock told) where
+      -- one strike is isolated
+
+      abbrev IsKnown : On S → Type 0
+      IsKnown a = LendsWanted a.traversal.walk a.lent × Facts e a.traversal (lent_words a.lent) begin (counts a.core)
+
+      makes_isolated : IsTrusted e → (a b : On S) (s : Turned) → Makes gives counts told service input a b s → (counts b.core).struck ≤ begin.struck + 1 → IsKnown a →
+          Isolates e a.traversal b.traversal a.lent b.lent begin (counts b.core) s.want s.state
+      makes_isolated trusted a b s m few known =
+          subst (λ (w : Want). Isolates e a.traversal b.traversal a.lent b.lent begin (counts b.core) w s.state) (sym m.want)
+          (isolates_one gives counts law told e begin a.traversal b.traversal a.lent b.lent s.state a.core b.core service input same_service same_input m.turned m.lent m.space m.steps m.sealed trusted tells known.0 known.1 few)
+
+      quiet_known : IsTrusted e → (a b : On S) → IsQuiet a b → (counts b.core).struck ≤ begin.struck + 1 → IsKnown a → IsKnown b
+      quiet_known trusted a b q few known = let i = makes_isolated trusted a b (record { want = Nothing; state = Went }) q few known in (i.lends refl, i.goes)
+
+      pub run_isolated : (n : ℕ) (x z : On S) (t : Turned) → IsTrusted e → (r : RunsOn gives counts told service input n x z t) → LendsWanted x.traversal.walk x.lent → Facts e x.traversal (lent_words x.lent) begin (counts x.core) →
+          (counts z.core).struck ≤ begin.struck + 1 → Isolates e r.last.traversal z.traversal r.last.lent z.lent begin (counts z.core) t.want t.state
+      run_isolated n x z t trusted r lends facts few =
+          let last = chain_isolates IsQuiet IsKnown (λ a. (counts a.core).struck) (begin.struck + 1) n x r.last (λ a b q. q.struck) (quiet_known trusted) r.chain (omega (arith, r.makes.struck, few)) (lends, facts) in
+          makes_isolated trusted r.last z t r.makes few last
+
+      -- the steps of a run are steps of the traversal, and what each of them wanted is known
+
+      stepped : IsTrusted e → (wants : List Want) (a b : On S) (s : Turned) → Makes gives counts told service input a b s → (counts b.core).struck ≤ begin.struck + 1 → IsKnown a → Steps e begin wants a.traversal Went →
+          Steps e begin (wants ++ s.want ∷ []) b.traversal s.state
+      stepped trusted wants a b s m few known steps =
+          let isolated = subst (λ (w : Want). Isolates e a.traversal b.traversal a.lent b.lent begin (counts b.core) w s.state) m.want (makes_isolated trusted a b s m few known) in
+          subst (λ (w : Want). Steps e begin (wants ++ w ∷ []) b.traversal s.state) (sym m.want) (GoesOn wants a.traversal b.traversal a.lent b.lent (counts b.core) s.state steps isolated)
+
+      chain_stepped : IsTrusted e → (wants : List Want) (n : ℕ) (x z : On S) → Chain IsQuiet n x z → (counts z.core).struck ≤ begin.struck + 1 → IsKnown x → Steps e begin wants x.traversal Went →
+          IsKnown z × Steps e begin (wants ++ replicate n Nothing) z.traversal Went
+      chain_stepped trusted wants zero x z is few known steps =
+          subst (λ (a : On S). IsKnown a × Steps e begin (wants ++ []) a.traversal Went) (sym is) (known, subst (λ (ws : List Want). Steps e begin ws x.traversal Went) (sym (append-nil wants)) steps)
+      chain_stepped trusted wants (suc n) x z (y, c, q) few known steps =
+          let before = chain_stepped trusted wants n x y c (omega (arith, q.struck, few)) known steps in (
+            quiet_known trusted y z q few before.0,
+            subst (λ (ws : List Want). Steps e begin ws z.traversal Went) (one_more_quiet wants n)
+                (stepped trusted (wants ++ replicate n Nothing) y z (record { want = Nothing; state = Went }) q few before.0 before.1),
+          )
+
+      pub run_stepped : (wants : List Want) (n : ℕ) (x z : On S) (t : Turned) → IsTrusted e → RunsOn gives counts told service input n x z t → LendsWanted x.traversal.walk x.lent → Facts e x.traversal (lent_words x.lent) begin (counts x.core) →
+          (counts z.core).struck ≤ begin.struck + 1 → Steps e begin wants x.traversal Went → Steps e begin ((wants ++ replicate n Nothing) ++ t.want ∷ []) z.traversal t.state
+      run_stepped wants n x z t trusted r lends facts few steps =
+          let before = chain_stepped trusted wants n x r.last r.chain (omega (arith, r.makes.struck, few)) (lends, facts) steps in
+          stepped trusted (wants ++ replicate n Nothing) r.last z t r.makes few before.0 before.1
+
+      -- a traversal that is on its way stays on it
+
+      makes_on_way : IsErrand e → (a b : On S) (s : Turned) → Makes gives counts told service input a b s → Lends e a.traversal.walk.place.phase a.lent → OnWay e a.traversal (lent_words a.lent) begin (counts a.core) →
+          StaysOnWay e a.traversal b.traversal (lent_words b.lent) begin (counts b.core) s.want s.state
+      makes_on_way errand a b s m lends way =
+          subst (λ (w : Want). StaysOnWay e a.traversal b.traversal (lent_words b.lent) begin (counts b.core) w s.state) (sym m.want)
+          (stays_on_way_given gives counts law told e begin a.traversal b.traversal a.lent b.lent s.state a.core b.core service input same_service same_input m.turned m.lent m.space m.steps errand tells lends way)
+
+      record IsOnWay (a : On S) : Type 0 where
+        later : begin.struck ≤ (counts a.core).struck
+        lends : (counts a.core).struck ≡ begin.struck → Lends e a.traversal.walk.place.phase a.lent
+        way : (counts a.core).struck ≡ begin.struck → OnWay e a.traversal (lent_words a.lent) begin (counts a.core)
+
+      quiet_on_way : IsErrand e → (a b : On S) → IsQuiet a b → IsOnWay a → IsOnWay b
+      quiet_on_way errand a b q h =
+          let before : (counts b.core).struck ≡ begin.struck → (counts a.core).struck ≡ begin.struck = λ same. omega (arith, same, h.later, q.struck) in
+          let stays = λ (same : (counts b.core).struck ≡ begin.struck). makes_on_way errand a b (record { want = Nothing; state = Went }) q (h.lends (before same)) (h.way (before same)) in
+          record {
+            later = omega (arith, h.later, q.struck);
+            lends = λ same. lends_on e a.traversal.walk a.lent b.lent b.traversal.walk.place.phase q.lent a.traversal.walk.place.phase (h.lends (before same)) ((stays same).wants same) ((stays same).next same);
+            way = λ same. (stays same).goes;
+          }
+
+      pub run_on_way : (n : ℕ) (x z : On S) (t : Turned) → IsErrand e → (r : RunsOn gives counts told service input n x z t) → Lends e x.traversal.walk.place.phase x.lent → OnWay e x.traversal (lent_words x.lent) begin (counts x.core) →
+          StaysOnWay e r.last.traversal z.traversal (lent_words z.lent) begin (counts z.core) t.want t.state
+      run_on_way n x z t errand r lends way = by_strikes (same_or_more begin.struck (counts r.last.core).struck last.later)
+        where
+          last : IsOnWay r.last
+          last = chain_keeps IsQuiet IsOnWay n x r.last (quiet_on_way errand) r.chain (record { later = way.later; lends = λ same. lends; way = λ same. way })
+
+          by_strikes : ((counts r.last.core).struck ≡ begin.struck) ⊎ (begin.struck < (counts r.last.core).struck) → StaysOnWay e r.last.traversal z.traversal (lent_words z.lent) begin (counts z.core) t.want t.state
+          by_strikes (inl same) = makes_on_way errand r.last z t r.makes (last.lends same) (last.way same)
+          by_strikes (inr more) = struck_on_way e r.last.traversal z.traversal (lent_words z.lent) begin (counts z.core) t.want (omega (arith, more, r.makes.struck)) t.state
