@@ -7,13 +7,17 @@ use Rattle.std.proofs.Math.ListN.{length-take, length-drop, length-append}
 use Rattle.memchr.specs.Find.{IsFirstByte, is_byte}
 use Rattle.mc_model.specs.Call.{Call}
 use Rattle.mc_text.specs.declared.limits.Limits.{Limits}
+use Rattle.mc_text.specs.declared.request.Request.{Request}
 use Rattle.mc_text.specs.Bounds.{longest_line}
-use Rattle.mc_text.specs.Meaning.{Meaning}
+use Rattle.mc_text.specs.Meaning.{Meaning, calls_of}
 use Rattle.mc_text.specs.Lines.{LineMeaning, Ends, Wants}
 use Rattle.mc_text.specs.Spells.{lf, one_behind, IsLine, line_says, too_long, finished, Spells, TooLong, OneLine, WithBlock, Begins, Completed}
 use Rattle.mc_text.specs.declared.reader.ReadRequest.TheVariants.{Whole, More}
 use Rattle.mc_text.specs.Reads.{Reads, BeginsSome}
 use Rattle.mc_text.specs.Front.{front, front_at, front_says}
+use Rattle.mc_text.specs.Parsed.{meaning_of, IsTemplateOf}
+use Rattle.mc_text.specs.Words.{words}
+use Rattle.mc_text.specs.Reading.{meaning_at, front_of, buckets_of, IsOf, StandsInside, BeginsAs}
 
 -- behind a line without LF stands the first one
 lf_line : (line more : List ℕ) (n : ℕ) → length line < n → lf line ≡ None → lf (take n (line ++ 10 ∷ more)) ≡ Some (length line)
@@ -327,3 +331,43 @@ pub spells_only : (l : Limits) (bytes : List ℕ) (n : ℕ) (q r : Meaning) → 
 spells_only l bytes n q r e s =
     let both : ◌≡◌ {A = Option (ℕ × Meaning)} (Some (length bytes, r)) (Some (n, q)) = sym (front_whole l bytes r s) ∙ sym e in
     let pairs : ◌≡◌ {A = ℕ × Meaning} (length bytes, r) (n, q) = cc in ap (λ (p : ℕ × Meaning). p.1) pairs
+
+-- What stands at the front is read from it alone.
+
+take_front : (i n : ℕ) (xs : List ℕ) → i ≤ n → take i (take n xs) ≡ take i xs
+take_front zero n xs h = refl
+take_front (suc i) zero xs h = absurd (omega arith)
+take_front (suc i) (suc n) [] h = refl
+take_front (suc i) (suc n) (x ∷ xs) h = ap (λ ys. x ∷ ys) (take_front i n xs (omega (arith, h)))
+
+range_front : (a c n : ℕ) (xs : List ℕ) → a + c ≤ n → take c (drop a (take n xs)) ≡ take c (drop a xs)
+range_front zero c n xs h = take_front c n xs (omega (arith, h))
+range_front (suc a) c zero xs h = absurd (omega arith)
+range_front (suc a) c (suc n) [] h = refl
+range_front (suc a) c (suc n) (x ∷ xs) h = range_front a c n xs (omega (arith, h))
+
+pub front_begins : (l : Limits) (bytes : List ℕ) (r : Request) → Some (front_of bytes r) ≡ front l bytes → IsOf bytes r → StandsInside r → buckets_of r ≡ l.buckets → BeginsAs l bytes r
+front_begins l bytes r found of inside buckets =
+    let b = front_reads l bytes r.length (meaning_at bytes r) (sym found) in
+    let own = take r.length bytes in
+    let block : slice_range own r.block.from r.block.to ≡ slice_range bytes r.block.from r.block.to = range_front r.block.from (r.block.to - r.block.from) r.length bytes (omega (arith, of.block_order, inside.block)) in
+    let line : take r.line own ≡ take r.line bytes = take_front r.line r.length bytes inside.line in
+    let same : meaning_at own r ≡ meaning_at bytes r =
+    ap (λ (bs : List ℕ). meaning_of bs (words (take r.line own)) r.template) block ∙ ap (λ (ls : List ℕ). meaning_of (slice_range bytes r.block.from r.block.to) (words ls) r.template) line in
+    let whole : Some (length own, meaning_at own r) ≡ front l own = sym (front_whole l own (meaning_at own r) (subst (Spells l own) (sym same) b.spelled)) in
+    record {
+      within = b.within;
+      reading = record {
+        spelled = subst (Spells l own) (sym same) b.spelled;
+        only = λ m s. spells_only l own (length own) (meaning_at own r) m whole s;
+        buckets = buckets;
+        calls = ap (λ n. calls_of n (meaning_at own r)) buckets;
+        of = record {
+          some_buckets = of.some_buckets;
+          line = omega (arith, inside.line, length_to r.length bytes b.within);
+          template = subst (λ (ls : List ℕ). IsTemplateOf (words ls) r.template) (sym line) of.template;
+          block_order = of.block_order;
+          block_end = omega (arith, inside.block, length_to r.length bytes b.within);
+        };
+      };
+    }

@@ -53,3 +53,17 @@ pub record IsReading (l : Limits) (bytes : List ℕ) (r : Request) : Type 0 wher
   pub buckets : buckets_of r ≡ l.buckets
   pub calls : calls_at bytes r ≡ calls_of l.buckets (meaning_at bytes r)
   pub of : IsOf bytes r
+
+-- how long it is
+abbrev pub length_of : Request → ℕ
+length_of r = r.length
+
+-- its places are among its own bytes
+pub record StandsInside (r : Request) : Type 0 where
+  pub line : r.line ≤ r.length
+  pub block : r.block.to ≤ r.length
+
+-- it begins these bytes, and is the one request that the bytes of its length spell
+pub record BeginsAs (l : Limits) (bytes : List ℕ) (r : Request) : Type 0 where
+  pub within : length_of r ≤ length bytes
+  pub reading : IsReading l (take (length_of r) bytes) r

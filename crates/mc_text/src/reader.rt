@@ -7,9 +7,9 @@ ghost use Rattle.mc_text.specs.Meaning.{Meaning, One};
 ghost use Rattle.mc_text.specs.Lines.{fixed};
 ghost use Rattle.mc_text.specs.Spells.{Spells, lf, line_says, block_refusal};
 ghost use Rattle.mc_text.specs.Front.{front, front_says};
-ghost use Rattle.mc_text.specs.Reads.{Reads};
+ghost use Rattle.mc_text.specs.Reads.{Reads, IsMore};
 ghost use Rattle.mc_text.specs.Parsed.{line_meaning_of, IsTemplateOf};
-ghost use Rattle.mc_text.specs.Reading.{meaning_at, front_of, buckets_of, IsOf, IsReading};
+ghost use Rattle.mc_text.specs.Reading.{meaning_at, front_of, buckets_of, IsOf, IsReading, StandsInside, BeginsAs};
 ghost use Rattle.mc_text.specs.declared.parsed.Kind.TheVariants as kinds;
 ghost use Rattle.mc_text.specs.declared.parsed.ParsedLine.TheVariants as lines;
 
@@ -46,6 +46,7 @@ fn fixed(limits: &Limits, length: usize, text: u8, noreply: bool, closing: bool)
     ensures length { result.length ≡ length }
     ensures meaning { (bytes : List ℕ) → meaning_at bytes result ≡ One (fixed text noreply) closing }
     ensures places { (bytes : List ℕ) → IsOf bytes result }
+    ensures inside { StandsInside result }
     ensures buckets { buckets_of result ≡ limits.now.buckets }
 {
     let call = CallSpan {
@@ -97,11 +98,12 @@ fn with_block(
 ) -> Option<Request>
     requires buckets { 0 < limits.now.buckets }
     requires place { k < length bytes.now }
-    requires line { line ≤ length bytes.now }
+    requires line { line ≤ k }
     requires template { IsTemplateOf (words (take line bytes.now)) template }
     requires kind { template.kind ≡ kinds.Each }
     ensures request { option_map (front_of bytes.now) result ≡ front_says limits.now bytes.now k (line_meaning_of (words (take line bytes.now)) (lines.Wants template n)) }
     ensures places { IfSome result (λ r. IsOf bytes.now r) }
+    ensures inside { IfSome result StandsInside }
     ensures buckets { IfSome result (λ r. buckets_of r ≡ limits.now.buckets) }
 {
     let rest = bytes.len() - k - 1;
@@ -130,6 +132,7 @@ fn at_line(bytes: &[u8], limits: &Limits, k: usize) -> Option<Request>
     requires place { k < length bytes.now }
     ensures request { option_map (front_of bytes.now) result ≡ front_says limits.now bytes.now k (line_says (take k bytes.now)) }
     ensures places { IfSome result (λ r. IsOf bytes.now r) }
+    ensures inside { IfSome result StandsInside }
     ensures buckets { IfSome result (λ r. buckets_of r ≡ limits.now.buckets) }
 {
     let line = line_end(&bytes[..k]);
@@ -163,6 +166,7 @@ fn first(bytes: &[u8], limits: &Limits) -> Option<Request>
     requires { 0 < limits.now.buckets }
     ensures request { option_map (front_of bytes.now) result ≡ front limits.now bytes.now }
     ensures places { IfSome result (λ r. IsOf bytes.now r) }
+    ensures inside { IfSome result StandsInside }
     ensures buckets { IfSome result (λ r. buckets_of r ≡ limits.now.buckets) }
 {
     match line_feed(head(bytes)) {
@@ -174,6 +178,19 @@ fn first(bytes: &[u8], limits: &Limits) -> Option<Request>
             }
         }
         Some(k) => at_line(bytes, limits, k),
+    }
+}
+
+/// The request that begins the bytes, if a whole one does. It is read once, and its places are those of its own bytes; bytes
+/// behind it are not looked at.
+pub fn read_front(bytes: &[u8], limits: &Limits) -> Option<Request>
+    requires { 0 < limits.now.buckets }
+    ensures some { IfSome result (λ r. BeginsAs limits.now bytes.now r) }
+    ensures none { IfNone result (IsMore limits.now bytes.now) }
+{
+    match first(bytes, limits) {
+        None => None,
+        Some(request) => Some(request),
     }
 }
 

@@ -6,7 +6,7 @@ ghost use Rattle.mc_model.specs.Views.{IsSpanOf, placed_of};
 ghost use Rattle.mc_text.specs.Words.{words, arg};
 ghost use Rattle.mc_text.specs.Meaning.{ends_connection, is_closing};
 ghost use Rattle.mc_text.specs.Fits.{HasKey, HasOwnHash};
-ghost use Rattle.mc_text.specs.Reading.{meaning_at, buckets_of, calls_at, key_calls_at, shared_call, IsOf};
+ghost use Rattle.mc_text.specs.Reading.{meaning_at, length_of, buckets_of, calls_at, key_calls_at, shared_call, IsOf};
 
 use crate::parsed::{Kind, Template, no_span};
 use crate::words::word;
@@ -28,6 +28,13 @@ pub struct Request {
 }
 
 impl Request {
+    /// How many bytes it has.
+    pub fn length(&self) -> usize
+        ensures { result ≡ length_of self.now }
+    {
+        self.length
+    }
+
     /// How many calls it has.
     #[tactic(auto, unfolding(crate::specs::Meaning::calls_of))]
     pub fn calls(&self) -> u64

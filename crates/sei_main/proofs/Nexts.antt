@@ -4,9 +4,9 @@ use Rattle.std.specs.Prelude.{if◌then◌else◌}
 use Rattle.mc_text.specs.declared.limits.Limits.{Limits}
 use Rattle.mc_text.specs.declared.request.Request.{Request}
 use Rattle.mc_text.specs.Meaning.{Meaning}
-use Rattle.mc_text.specs.Spells.{Spells, Begins}
-use Rattle.mc_text.specs.Reads.{IsWhole, IsMore}
-use Rattle.mc_text.specs.Reading.{IsReading, meaning_at}
+use Rattle.mc_text.specs.Spells.{Begins}
+use Rattle.mc_text.specs.Reads.{IsMore}
+use Rattle.mc_text.specs.Reading.{BeginsAs, length_of, meaning_at}
 use Rattle.mc_text.specs.Front.{front}
 use Rattle.mc_text.proofs.FrontLaws.{front_reads, begins_front}
 use Rattle.sei_main.specs.Seats.{Seat, waiting}
@@ -23,16 +23,11 @@ at_open l seat e = sym (ap (λ (b : Bool). if b then None else front l (waiting 
 pub next_more : (l : Limits) (seat : Seat) (bytes : List ℕ) → bytes ≡ waiting seat → false ≡ seat.closed → IsMore l bytes → next_request l seat ≡ None
 next_more l seat bytes e c m = at_open l seat c ∙ none_front l (waiting seat) (front l (waiting seat)) (subst (λ (bs : List ℕ). (k : ℕ) (n : Meaning) → Begins l bs k n → ⊥) e m.none) refl
 
-pub next_whole : (l : Limits) (seat : Seat) (bytes again : List ℕ) (n : ℕ) (r : Request) → bytes ≡ waiting seat → again ≡ waiting seat → false ≡ seat.closed → IsWhole l bytes n → IsReading l (take n again) r → IsNextOf l seat n r
-next_whole l seat bytes again n r e f c w i =
-    let w' : IsWhole l (waiting seat) n = subst (λ (bs : List ℕ). IsWhole l bs n) e w in
-    let i' : IsReading l (take n (waiting seat)) r = subst (λ (bs : List ℕ). IsReading l (take n bs) r) f i in
-    record {
-      within = w'.begins.within;
-      reading = i';
-      next = at_open l seat c ∙ begins_front l (waiting seat) n (meaning_at (take n (waiting seat)) r) (record { within = w'.begins.within; spelled = i'.spelled });
-    }
-
--- what the reader finds is parsed
-pub whole_parsed : (l : Limits) (seat : Seat) (bytes again : List ℕ) (n : ℕ) → bytes ≡ waiting seat → again ≡ waiting seat → IsWhole l bytes n → ((m : Meaning) → Spells l (take n again) m → ⊥) → ⊥
-whole_parsed l seat bytes again n e f w h = h w.request (subst (λ (bs : List ℕ). Spells l (take n bs) w.request) (e ∙ sym f) w.begins.spelled)
+pub next_whole : (l : Limits) (seat : Seat) (bytes : List ℕ) (n : ℕ) (r : Request) → bytes ≡ waiting seat → false ≡ seat.closed → BeginsAs l bytes r → n ≡ length_of r → IsNextOf l seat n r
+next_whole l seat bytes n r e c found size =
+    let b : BeginsAs l (waiting seat) r = subst (λ (bs : List ℕ). BeginsAs l bs r) e found in
+    subst (λ (k : ℕ). IsNextOf l seat k r) (sym size) (record {
+      within = b.within;
+      reading = b.reading;
+      next = at_open l seat c ∙ begins_front l (waiting seat) (length_of r) (meaning_at (take (length_of r) (waiting seat)) r) (record { within = b.within; spelled = b.reading.spelled });
+    })

@@ -9,7 +9,7 @@ use sei_fault::PlainCore;
 use sei_log::{Notes, WriteLog};
 use sei_outside::SetClock;
 use sei_pass::{Pass, PassStep, Sealed, Which};
-use sei_stmt::{Program, Stmt, target};
+use sei_stmt::{Program, Stmt};
 use sei_words::Words;
 use tab_find::registers::{NUMBER, VERB};
 
@@ -172,14 +172,16 @@ fn statements(
 /// Which register the statements put out first if the register that they choose by holds `number`, and how many they make before.
 fn chosen(stmts: &[Stmt], number: u64) -> Option<(u8, u64)> {
     let mut bound = 0;
-    let mut at = 0;
+    let mut at = 0u64;
     for made in 0..100 {
         match stmts.get(at as usize) {
             Some(Stmt::Const { number, .. }) => {
                 bound = *number;
                 at += 1;
             }
-            Some(Stmt::JumpLt { offset, .. }) if number < bound => at = target(at, *offset),
+            Some(Stmt::JumpLt { offset, .. }) if number < bound => {
+                at = (at + 1).checked_add_signed(*offset)?;
+            }
             Some(Stmt::JumpLt { .. }) => at += 1,
             Some(Stmt::Emit { from }) => return Some((*from, made)),
             _ => return None,

@@ -18,7 +18,7 @@ use super::connection::Connection;
 use super::service::{Entered, Numbers, Served, Service};
 use crate::plans::Plans;
 use mc_model::{CallSpan, Geometry};
-use mc_text::{Limits, ReadRequest, Request, parse, read_request};
+use mc_text::{Limits, Request, read_front};
 use sei_code::Memory;
 use sei_outside::Sink;
 use sei_script::{Reporter, ScriptLine, Stop};
@@ -312,12 +312,9 @@ fn next_request(connection: &Connection, limits: &Limits) -> Option<(usize, Requ
     if connection.is_closed() {
         return None;
     }
-    match read_request(connection.waiting(), limits) {
-        ReadRequest::More => None,
-        ReadRequest::Whole { length } => match parse(&connection.waiting()[..length], limits) {
-            None => None,
-            Some(request) => Some((length, request)),
-        },
+    match read_front(connection.waiting(), limits) {
+        None => None,
+        Some(request) => Some((request.length(), request)),
     }
 }
 
