@@ -5,3 +5,4 @@ pub mod Worked
 pub mod PackLaws
 pub mod PublicBuckets
 pub mod PublicPacking
+pub mod Public

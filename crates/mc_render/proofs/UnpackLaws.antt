@@ -4,7 +4,7 @@ use Rattle.std.proofs.lemmas.Bool.{le-leb}
 use Rattle.std.proofs.lemmas.List.{length-append}
 use Rattle.std.proofs.Math.Seq.{drop-append_seam}
 use Rattle.mc_model.specs.Packed.{AreBytes, words_for, pack}
-use Rattle.mc_model.proofs.PackLaws.{length_pack, unpack_before}
+use Rattle.mc_model.proofs.Public.{length_pack, unpack_before}
 use Rattle.mc_render.specs.Outputs.{first_bytes}
 
 -- packed bytes are read, whatever stands behind them

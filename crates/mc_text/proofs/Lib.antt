@@ -10,3 +10,5 @@ pub mod PublicCommands
 pub mod ByteLaws
 pub mod PublicCalls
 pub mod PublicRequests
+pub mod KeyLaws
+pub mod Public

@@ -1,19 +1,19 @@
 -- The words from a place on.
-use Rattle.std.proofs.Common.{◌≡◌, ◌≢◌, ℕ, zero, suc, ◌+◌, ◌-◌, ◌≤◌, ◌<◌, true, false, List, [], ◌∷◌, ◌++◌, length, take, drop, get_or, refl, sym, ap, ◌∙◌, subst, arith, eqb, append_assoc, Some, None}
+use Rattle.std.proofs.Common.{◌≡◌, ◌≢◌, ℕ, zero, suc, ◌+◌, ◌-◌, ◌≤◌, ◌<◌, true, false, List, [], ◌∷◌, ◌++◌, length, take, drop, get_or, refl, sym, ap, ◌∙◌, arith, eqb}
 use Rattle.std.specs.Prelude.{slice_range}
-use Rattle.std.proofs.lemmas.List.{append-nil, drop_more, drop_all, drop-drop, get_or-drop, take_all}
+use Rattle.std.proofs.lemmas.List.{drop_more, take_more, drop_all, drop-drop, get_or-drop, take_all}
+use Rattle.std.proofs.lemmas.Grind.{common_steps}
 use Rattle.std.proofs.lemmas.Bool.Decides.{nat_tests}
 use Rattle.std.proofs.Math.ListN.{length-take, length-drop}
-use Rattle.memchr.specs.Find.{IsFirstByte, is_byte}
 use Rattle.mc_text.specs.Words.{words, words_from, closed, arg}
 
-is_space : (b : ℕ) → b ≡ 32 → eqb b 32 ≡ true
+pub is_space : (b : ℕ) → b ≡ 32 → eqb b 32 ≡ true
 is_space b h = grind (arith, nat_tests)
 
 space_is : (b : ℕ) → eqb b 32 ≡ true → b ≡ 32
 space_is b h = grind (arith, nat_tests)
 
-no_space : (b : ℕ) → b ≢ 32 → eqb b 32 ≡ false
+pub no_space : (b : ℕ) → b ≢ 32 → eqb b 32 ≡ false
 no_space b h = grind (arith, nat_tests)
 
 -- a space in front makes no difference
@@ -21,74 +21,54 @@ pub words_space : (line : List ℕ) (at : ℕ) → at < length line → get_or l
 unfolding words
 words_space line at l e = sym (ap (words_from []) (drop_more line at 0 l) ∙ simp e)
 
--- a word up to the first space
-from_space : (w bs : List ℕ) (k : ℕ) → k < length bs → get_or bs k 0 ≡ 32 → ((j : ℕ) → j < k → get_or bs j 0 ≢ 32) → words_from w bs ≡ closed (w ++ take k bs) (words_from [] (drop (k + 1) bs))
-from_space w [] k l e n = absurd (omega arith)
-from_space w (b ∷ bs) zero l e n = simp (is_space b e) (ap (λ v. closed v (words_from [] bs)) (sym (append-nil w)))
-from_space w (b ∷ bs) (suc k) l e n =
-    let later = from_space (w ++ b ∷ []) bs k (omega arith) e (λ j i. n (suc j) (omega arith)) in
-    let one : suc k + 1 ≡ suc (k + 1) = omega arith in
-    simp (no_space b (n 0 (omega arith))) (later ∙ ap (λ v. closed v (words_from [] (drop (k + 1) bs))) (append_assoc w (b ∷ []) (take k bs)) ∙ ap (λ i. closed (w ++ b ∷ take k bs) (words_from [] (drop i (b ∷ bs)))) (sym one))
+-- a word in progress
 
--- or up to the end
-from_end : (w bs : List ℕ) → ((j : ℕ) → j < length bs → get_or bs j 0 ≢ 32) → words_from w bs ≡ closed (w ++ bs) []
-from_end w [] n = ap (λ v. closed v []) (sym (append-nil w))
-from_end w (b ∷ bs) n =
-    let later = from_end (w ++ b ∷ []) bs (λ j i. n (suc j) (omega arith)) in
-    simp (no_space b (n 0 (omega arith))) (later ∙ ap (λ v. closed v []) (append_assoc w (b ∷ []) bs))
+one_more : (line : List ℕ) (from at : ℕ) → from ≤ at → at < length line → slice_range line from at ++ get_or line at 0 ∷ [] ≡ slice_range line from (at + 1)
+one_more line from at o l =
+    let bs = drop from line in
+    let k = at - from in
+    let here : get_or bs k 0 ≡ get_or line at 0 = get_or-drop from line k 0 ∙ ap (λ i. get_or line i 0) (omega arith) in
+    ap (λ b. take k bs ++ b ∷ []) (sym here)
+    ∙ sym (take_more bs k 0 (omega (arith, length-drop from line)))
+    ∙ ap (λ n. take n bs) (omega arith)
+
+pub word_begins : (line : List ℕ) (from : ℕ) → from < length line → get_or line from 0 ≢ 32 → words_from (slice_range line from (from + 1)) (drop (from + 1) line) ≡ words (drop from line)
+unfolding words
+word_begins line from l n =
+    let one : slice_range line from (from + 1) ≡ get_or line from 0 ∷ [] = grind (arith, common_steps) in
+    ap (λ w. words_from w (drop (from + 1) line)) one ∙ sym (ap (words_from []) (drop_more line from 0 l) ∙ simp (no_space (get_or line from 0) n) refl)
+
+pub word_more : (line : List ℕ) (from at : ℕ) → from ≤ at → at < length line → get_or line at 0 ≢ 32 → words_from (slice_range line from at) (drop at line) ≡ words_from (slice_range line from (at + 1)) (drop (at + 1) line)
+word_more line from at o l n =
+    ap (words_from (slice_range line from at)) (drop_more line at 0 l)
+    ∙ simp (no_space (get_or line at 0) n) (ap (λ w. words_from w (drop (at + 1) line)) (one_more line from at o l))
 
 closed_some : (w : List ℕ) (ws : List (List ℕ)) → 0 < length w → closed w ws ≡ w ∷ ws
 closed_some [] ws h = absurd (omega arith)
 closed_some (b ∷ bs) ws h = refl
 
-rest_of_line : (line : List ℕ) (from : ℕ) → slice_range line from (length line) ≡ drop from line
+pub rest_of_line : (line : List ℕ) (from : ℕ) → slice_range line from (length line) ≡ drop from line
 rest_of_line line from = take_all (length line - from) (drop from line) (omega (arith, length-drop from line))
 
--- where the search for a space ends
-pub record EndsWord (line : List ℕ) (from to : ℕ) : Type 0 where
-  pub word : words (drop from line) ≡ slice_range line from to ∷ words (drop to line)
-  pub some : from < to
-  pub within : to ≤ length line
+some_bytes : (line : List ℕ) (from at : ℕ) → from < at → at ≤ length line → 0 < length (slice_range line from at)
+some_bytes line from at o l = omega (arith, length-take (at - from) (drop from line), length-drop from line)
 
-pub ends_at_space : (line : List ℕ) (from k : ℕ) → from < length line → get_or line from 0 ≢ 32 → IsFirstByte (is_byte 32) (slice_range line from (length line)) (Some k) → EndsWord line from (from + k)
+pub word_stops : (line : List ℕ) (from at : ℕ) → from < at → at < length line → get_or line at 0 ≡ 32 → words_from (slice_range line from at) (drop at line) ≡ slice_range line from at ∷ words (drop at line)
 unfolding words
-ends_at_space line from k l n found =
-    let bs = drop from line in
-    let h = subst (λ x. IsFirstByte (is_byte 32) x (Some k)) (rest_of_line line from) found in
-    let here : get_or bs k 0 ≡ 32 = space_is (get_or bs k 0) h.1 in
-    let space : get_or line (from + k) 0 ≡ 32 = sym (get_or-drop from line k 0) ∙ here in
-    let high : from + k < length line = omega (arith, h.0.high, length-drop from line) in
-    let some : 0 < k = positive k space in
-    let long : 0 < length (take k bs) = omega (arith, length-take k bs, h.0.high) in
-    record {
-      word = from_space [] bs k h.0.high here (λ j i e. h.0.before j (omega arith) i (is_space (get_or bs j 0) e))
-          ∙ closed_some (take k bs) _ long
-          ∙ ap (λ v. take k bs ∷ words_from [] v) (drop-drop (k + 1) from line)
-          ∙ ap (λ i. take k bs ∷ words_from [] (drop i line)) (omega arith)
-          ∙ ap (λ (ws : List (List ℕ)). take k bs ∷ ws) (words_space line (from + k) high space)
-          ∙ ap (λ i. take i bs ∷ words_from [] (drop (from + k) line)) (omega arith);
-      some = omega arith;
-      within = omega arith;
-    }
-  where
-    positive : (k : ℕ) → get_or line (from + k) 0 ≡ 32 → 0 < k
-    positive zero e = let same : from + 0 ≡ from = omega arith in absurd (n (ap (λ i. get_or line i 0) (sym same) ∙ e))
-    positive (suc k) e = omega arith
+word_stops line from at o l e =
+    let w = slice_range line from at in
+    ap (words_from w) (drop_more line at 0 l)
+    ∙ simp (is_space (get_or line at 0) e) (closed_some w (words_from [] (drop (at + 1) line)) (some_bytes line from at o (omega arith)))
+    ∙ ap (λ (ws : List (List ℕ)). w ∷ ws) (words_space line at l e)
 
-pub ends_at_end : (line : List ℕ) (from : ℕ) → from < length line → IsFirstByte (is_byte 32) (slice_range line from (length line)) None → EndsWord line from (length line)
+pub word_ends : (line : List ℕ) (from at : ℕ) → from < at → at ≡ length line → words_from (slice_range line from at) (drop at line) ≡ slice_range line from at ∷ words (drop at line)
 unfolding words
-ends_at_end line from l found =
-    let bs = drop from line in
-    let h = subst (λ x. IsFirstByte (is_byte 32) x None) (rest_of_line line from) found in
-    let long : 0 < length bs = omega (arith, length-drop from line) in
-    record {
-      word = from_end [] bs (λ j i e. h j (omega arith) i (is_space (get_or bs j 0) e))
-          ∙ closed_some bs [] long
-          ∙ ap (λ (v : List ℕ). v ∷ []) (sym (take_all (length line - from) bs (omega (arith, length-drop from line))))
-          ∙ ap (λ v. slice_range line from (length line) ∷ words_from [] v) (sym (drop_all (length line) line (omega arith)));
-      some = l;
-      within = omega arith;
-    }
+word_ends line from at o e =
+    let w = slice_range line from at in
+    let none : drop at line ≡ [] = drop_all at line (omega arith) in
+    ap (words_from w) none ∙ closed_some w [] (some_bytes line from at o (omega arith)) ∙ ap (λ (v : List ℕ). w ∷ words_from [] v) (sym none)
+
+pub ruleset word_bytes = (word_begins, word_more, word_stops, word_ends)
 
 -- no words behind the end
 pub words_end : (line : List ℕ) (at : ℕ) → at ≡ length line → words (drop at line) ≡ []

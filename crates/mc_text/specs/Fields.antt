@@ -13,6 +13,10 @@ is_key_byte b = not (b == 0 || b == 10 || b == 13 || b == 32)
 abbrev pub is_key : List ℕ → Bool
 is_key w = nat_lt 0 (length w) && nat_le (length w) longest_key && list_all is_key_byte w
 
+-- how many words, if all of them are keys
+abbrev pub keys_in : List (List ℕ) → Option ℕ
+keys_in ws = if list_all is_key ws then Some (length ws) else None
+
 -- a `-` before the number 0 makes nothing negative
 abbrev pub signed : Bool → Option ℕ → Option (Bool × ℕ)
 signed negative None = None

@@ -1,11 +1,11 @@
 ghost use Rattle.std.specs.Prelude.{◌≡◌, ◌<◌, ◌≤◌, length, drop};
 ghost use Rattle.std.specs.List.{list_all};
 ghost use Rattle.mc_text.specs.Words.{words, arg};
-ghost use Rattle.mc_text.specs.Fields.{is_key_byte, is_key, exptime_of, is_noreply, has_words};
+ghost use Rattle.mc_text.specs.Fields.{is_key_byte, is_key, keys_in, exptime_of, is_noreply, has_words};
 
 use crate::commands::is;
 use crate::limits::LONGEST_KEY;
-use crate::words::{count, next_word, word};
+use crate::words::{count, word};
 use mc_model::number_upto;
 
 /// The greatest number of seconds in an exptime.
@@ -74,18 +74,27 @@ pub fn has_words(line: &[u8], n: usize) -> bool
     all == n || (all == n + 1 && is_noreply(word_bytes(line, n)))
 }
 
-/// Whether all words at a place or behind it are keys.
-#[tactic(auto, using(crate::proofs::WordLaws::word_steps))]
-pub fn all_keys(line: &[u8], from: usize) -> bool
+/// How many words there are at a place or after it, if all of them are keys. Each byte is looked at once.
+#[tactic(auto, using(crate::proofs::KeyLaws::key_steps))]
+pub fn keys_at(line: &[u8], from: usize) -> Option<usize>
     requires { from ≤ length line.now }
-    ensures { result ≡ list_all is_key (words (drop from line.now)) }
+    ensures { result ≡ keys_in (words (drop from line.now)) }
 {
-    let mut at = from;
-    while let Some(word) = next_word(line, at) {
-        if !is_key(&line[word.from..word.to]) {
-            return false;
+    let rest = &line[from..];
+    let mut seen = 0;
+    // How many bytes the word has so far, if one has begun.
+    let mut long = 0;
+    for b in rest {
+        if *b == b' ' {
+            if 0 < long {
+                seen += 1;
+            }
+            long = 0;
+        } else if long < LONGEST_KEY && is_key_byte(*b) {
+            long += 1;
+        } else {
+            return None;
         }
-        at = word.to;
     }
-    true
+    Some(if 0 < long { seen + 1 } else { seen })
 }

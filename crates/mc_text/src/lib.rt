@@ -12,6 +12,7 @@ mod lines;
 mod parsed;
 mod reader;
 mod request;
+mod scan;
 #[cfg(test)]
 mod tests;
 mod words;

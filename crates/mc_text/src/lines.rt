@@ -7,13 +7,15 @@ ghost use Rattle.mc_model.specs.Texts.{text_count};
 ghost use Rattle.mc_text.specs.Meaning.{One};
 ghost use Rattle.mc_text.specs.Lines.{Ends, fixed, refused, block_for, some_words, has_zero_words, is_zero_or_noreply, asks_noreply, storage, retrieval, deletion, version, verbosity, quit, words_say};
 ghost use Rattle.mc_text.specs.Fits.{HasKey};
+ghost use Rattle.mc_text.specs.Walk.{next_of, IsScan};
 ghost use Rattle.mc_text.specs.Parsed.{line_meaning_of, IsParsedOf};
 
 use crate::commands::{Form, command_of, is};
-use crate::fields::{all_keys, exptime_of, has_words, is_key, is_noreply, word_bytes};
+use crate::fields::{exptime_of, has_words, is_key, is_noreply, keys_at, word_bytes};
 use crate::limits::LONGEST_BLOCK;
 use crate::parsed::{Kind, ParsedLine, Template, blank};
-use crate::words::{behind_words, count};
+use crate::scan::Scan;
+use crate::words::count;
 use mc_model::texts::{BAD_LINE_FORMAT, ERROR, OBJECT_TOO_LARGE, OKAY, VERSION};
 use mc_model::{CallSpan, Verb, number_upto};
 
@@ -71,56 +73,61 @@ fn block_for(line: &[u8], call: CallSpan, bytes: u64) -> ParsedLine
 }
 
 #[tactic(auto, unfolding(crate::specs::Lines::storage))]
-fn storage(line: &[u8], verb: Verb) -> ParsedLine
-    requires { HasKey verb }
+fn storage(line: &[u8], mut scan: Scan, verb: Verb) -> ParsedLine
+    requires place { IsScan line.now scan }
+    requires next { next_of scan ≡ 1 }
+    requires verb { HasKey verb }
     ensures meaning { line_meaning_of (words line.now) result ≡ storage verb (words line.now) }
     ensures parsed { IsParsedOf (words line.now) result }
 {
-    if !has_words(line, 5) {
+    let key = scan.next(line);
+    let flags = scan.next(line);
+    let exptime = scan.next(line);
+    let bytes = scan.next(line);
+    let Some(noreply) = scan.ending(line, bytes) else {
         return refused(line, ERROR);
-    }
-    if !is_key(word_bytes(line, 1)) {
+    };
+    if !is_key(key) {
         return refused(line, BAD_LINE_FORMAT);
     }
-    let Some(flags) = number_upto(LARGEST_FIELD, word_bytes(line, 2)) else {
+    let Some(flags) = number_upto(LARGEST_FIELD, flags) else {
         return refused(line, BAD_LINE_FORMAT);
     };
-    let Some((negative, exptime)) = exptime_of(word_bytes(line, 3)) else {
+    let Some((negative, exptime)) = exptime_of(exptime) else {
         return refused(line, BAD_LINE_FORMAT);
     };
-    let Some(bytes) = number_upto(LARGEST_FIELD, word_bytes(line, 4)) else {
+    let Some(bytes) = number_upto(LARGEST_FIELD, bytes) else {
         return refused(line, BAD_LINE_FORMAT);
     };
     let call = CallSpan {
         flags: flags as u32,
         negative,
         exptime,
-        noreply: 5 < count(line),
+        noreply,
         ..blank(verb)
     };
     block_for(line, call, bytes)
 }
 
 #[tactic(auto, unfolding(crate::specs::Lines::retrieval))]
-fn retrieval(line: &[u8], verb: Verb) -> ParsedLine
-    requires { HasKey verb }
+fn retrieval(line: &[u8], scan: Scan, verb: Verb) -> ParsedLine
+    requires place { IsScan line.now scan }
+    requires next { next_of scan ≡ 1 }
+    requires verb { HasKey verb }
     ensures meaning { line_meaning_of (words line.now) result ≡ retrieval verb (words line.now) }
     ensures parsed { IsParsedOf (words line.now) result }
 {
-    let all = count(line);
-    if all <= 1 {
-        return refused(line, ERROR);
+    match keys_at(line, scan.place(line)) {
+        None => refused(line, BAD_LINE_FORMAT),
+        Some(0) => refused(line, ERROR),
+        Some(count) => ParsedLine::Ends(Template {
+            kind: Kind::Each,
+            call: blank(verb),
+            first: 1,
+            count,
+            closing: false,
+        }),
     }
-    if !all_keys(line, behind_words(line, 1)) {
-        return refused(line, BAD_LINE_FORMAT);
-    }
-    ParsedLine::Ends(Template {
-        kind: Kind::Each,
-        call: blank(verb),
-        first: 1,
-        count: all - 1,
-        closing: false,
-    })
 }
 
 /// Whether a line has `n` words and up to two more, the second of which is `noreply`.
@@ -227,12 +234,13 @@ pub fn parse_line(line: &[u8]) -> ParsedLine
     ensures meaning { line_meaning_of (words line.now) result ≡ words_say (words line.now) }
     ensures parsed { IsParsedOf (words line.now) result }
 {
-    let Some(command) = command_of(word_bytes(line, 0)) else {
+    let mut scan = Scan::start();
+    let Some(command) = command_of(scan.next(line)) else {
         return refused(line, ERROR);
     };
     match command.form {
-        Form::Storage => storage(line, command.verb),
-        Form::Retrieval => retrieval(line, command.verb),
+        Form::Storage => storage(line, scan, command.verb),
+        Form::Retrieval => retrieval(line, scan, command.verb),
         Form::Deletion => deletion(line, command.verb),
         Form::Version => version(line),
         Form::Verbosity => verbosity(line),

@@ -4,7 +4,6 @@ ghost use Rattle.std.specs.Prelude.{◌≡◌, ◌≢◌, ◌<◌, ◌≤◌, �
 ghost use Rattle.mc_text.specs.Words.{words, arg, line_end, IsNextWord};
 
 use mc_model::Span;
-use memchr::memchr;
 
 /// Where the spaces that begin at `from` end.
 #[tactic(auto, using(crate::proofs::WordLaws::word_steps))]
@@ -25,7 +24,8 @@ fn skip_spaces(line: &[u8], from: usize) -> usize
     at
 }
 
-/// Where the word that begins at `from` ends.
+/// Where the word that begins at `from` ends. Words are short, so this looks at one byte after the other.
+#[tactic(auto, using(crate::proofs::WordLaws::word_bytes))]
 fn word_end(line: &[u8], from: usize) -> usize
     requires within { from < length line.now }
     requires begins { slice_index line.now from ≢ 32 }
@@ -33,10 +33,14 @@ fn word_end(line: &[u8], from: usize) -> usize
     ensures some { from < result }
     ensures within { result ≤ length line.now }
 {
-    match memchr(b' ', &line[from..]) {
-        Some(k) => from + k,
-        None => line.len(),
+    let mut at = from + 1;
+    while at < line.len() {
+        if line[at] == b' ' {
+            return at;
+        }
+        at += 1;
     }
+    at
 }
 
 /// The first word at `at` or behind it.

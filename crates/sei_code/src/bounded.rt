@@ -130,4 +130,14 @@ impl<T: Copy + Drop> Bounded<T> {
     {
         self.len = 0;
     }
+
+    /// The items, in the memory that was room for them.
+    pub fn into_vec(self) -> Vec<T>
+        ensures { result.items ≡ self.items }
+    {
+        let len = self.len;
+        let mut cells = self.cells;
+        cells.truncate(len);
+        cells
+    }
 }

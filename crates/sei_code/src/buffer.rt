@@ -106,6 +106,13 @@ impl Buffer {
     {
         self.list.clear();
     }
+
+    /// The bytes, in the memory that was room for them.
+    pub fn into_vec(self) -> Vec<u8>
+        ensures { result.items ≡ self.items }
+    {
+        self.list.into_vec()
+    }
 }
 
 /// A list of words. Its value is its words and its room.

@@ -4,4 +4,5 @@ pub mod PublicChains
 pub mod Runs
 pub mod Scripted
 pub mod Strikes
-pub mod StruckRuns
+pub mod PublicStruckRuns
+pub mod Public

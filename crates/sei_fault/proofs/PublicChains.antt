@@ -1,5 +1,5 @@
 -- What holds of chains of steps.
-use Rattle.std.proofs.Common.{◌≡◌, ℕ, zero, suc, ◌≤◌, ap, subst, sym, refl, arith}
+use Rattle.std.proofs.Common.{ℕ, zero, suc, ◌≤◌, ap, subst, sym, refl, arith}
 use Rattle.sei_fault.specs.Chain.{Chain}
 
 -- what each step keeps, a chain keeps

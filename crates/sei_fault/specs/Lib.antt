@@ -11,3 +11,4 @@ pub mod Strikes
 pub mod Tree
 pub mod Watching
 pub mod StruckRuns
+pub mod Weights

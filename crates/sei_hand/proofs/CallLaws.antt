@@ -13,18 +13,18 @@ use Rattle.mc_text.specs.Fits.{HasKey, HasBytes}
 use Rattle.mc_text.proofs.PublicCommands.{read_has_key}
 use Rattle.sei_code.specs.Codes.{fnv64}
 use Rattle.tab_find.specs.Calls.{IsCall}
-use Rattle.sei_hand.specs.InputWords.{field_words, filled_up, key_words, hash_word, input_words}
+use Rattle.sei_hand.specs.InputWords.{field_words, filled_up, key_words, hash_word, input_words, filled_input}
 use Rattle.sei_hand.specs.ReadCall.{IsReadCall}
 use Rattle.sei_hand.proofs.InputLaws.{length_filled_up, length_input_words}
 
 -- a field
 at_field : (g : Geometry) (c : Call) (k : ℕ) → k < 14 → slice_index (input_words g c) k ≡ slice_index (field_words c) k
-unfolding input_words
+unfolding filled_input
 at_field g c k lt = get_or_append_left (field_words c) (filled_up key_words (pack c.key) ++ filled_up g.value_words (pack c.block)) 0 k lt
 
 -- a word of the key
 at_key : (g : Geometry) (c : Call) (j : ℕ) → j < length (pack c.key) → length (pack c.key) ≤ 32 → slice_index (input_words g c) (14 + j) ≡ slice_index (pack c.key) j
-unfolding input_words
+unfolding filled_input
 at_key g c j lt few =
     let key = pack c.key in
     let within : j < length (filled_up key_words key) = omega (arith, length_filled_up key_words key few, lt, few) in
@@ -34,7 +34,7 @@ at_key g c j lt few =
 
 -- a word of the block
 at_block : (g : Geometry) (c : Call) (j : ℕ) → j < length (pack c.block) → length (pack c.key) ≤ 32 → slice_index (input_words g c) (46 + j) ≡ slice_index (pack c.block) j
-unfolding input_words
+unfolding filled_input
 at_block g c j lt few =
     let key = filled_up key_words (pack c.key) in
     let block = pack c.block in

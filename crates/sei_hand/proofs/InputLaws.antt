@@ -6,14 +6,14 @@ use Rattle.mc_model.specs.declared.geometry.Geometry.{Geometry}
 use Rattle.mc_model.specs.Call.{Call}
 use Rattle.mc_model.specs.Packed.{pack}
 use Rattle.mc_model.proofs.PublicPacking.{length_pack}
-use Rattle.sei_hand.specs.InputWords.{field_words, filled_up, key_words, input_words}
+use Rattle.sei_hand.specs.InputWords.{field_words, filled_up, key_words, input_words, filled_input}
 use Rattle.sei_pass.specs.Spaces.{input_room}
 
 pub length_filled_up : (n : ℕ) (ws : List ℕ) → length ws ≤ n → length (filled_up n ws) ≡ n
 length_filled_up n ws h = omega (arith, length-append ws (replicate (n - length ws) 0), length-replicate {A = ℕ} (n - length ws) 0)
 
 pub length_input_words : (g : Geometry) (c : Call) → length c.key ≤ 250 → length c.block ≤ 8 * g.value_words → length (input_words g c) ≡ input_room g
-unfolding input_words
+unfolding filled_input
 length_input_words g c k b =
     let key : length (pack c.key) ≤ 32 = omega (arith, length_pack c.key) in
     let block : length (pack c.block) ≤ g.value_words = omega (arith, length_pack c.block) in

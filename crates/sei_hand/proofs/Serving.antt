@@ -19,8 +19,10 @@ use Rattle.sei_stmt.specs.Passes.IsTold.{ByClock, ByNotes}
 use Rattle.sei_stmt.specs.Slots.{lowest_free}
 use Rattle.sei_stmt.specs.Sound.{Serves, IsSound}
 use Rattle.sei_stmt.specs.Table.{HasRegisters}
-use Rattle.sei_stmt.proofs.ServeLaws.{serves}
+use Rattle.sei_stmt.proofs.Public.{serves}
+use Rattle.sei_hand.specs.HandsBehavior.{hands_behavior}
 use Rattle.sei_hand.specs.Commands.{hands_program, hands_table}
+use Rattle.sei_hand.specs.Requests.{parsed_call}
 use Rattle.sei_hand.specs.Served.{Stands, Asks, space_for}
 use Rattle.sei_pass.specs.Spaces.{rooms_of, space_of}
 use Rattle.sei_hand.proofs.BytesLaws.{rendered_bytes}
@@ -49,9 +51,9 @@ module _ (g : Geometry) (valid : IsValid g) (setting : Setting) (pass : IsPassOf
   hands_serve notes (ByNotes second slot is) = answered (λ words moment. slot) notes (Noted slot second refl is)
 
 -- a handler that makes the input words of calls is sound
-pub hands_sound : (g : Geometry) → IsValid g → (parsed : List ℕ → ℕ → Option Parsed) (call_of : List ℕ → ℕ → Call) →
-    ((input : List ℕ) (nth : ℕ) (p : Parsed) → AreBytes input → parsed input nth ≡ Some p → Asks g p.words (call_of input nth)) →
-    IsSound (hands_table g) parsed (rendered (8 * g.value_words)) (space_for g) (Stands g) (Stands g) (λ input nth b now. answer (room_of g) b now (call_of input nth))
-hands_sound g valid parsed call_of asks = record {
+pub hands_sound : (g : Geometry) → IsValid g → (call_of : List ℕ → ℕ → Call) →
+    ((input : List ℕ) (nth : ℕ) (p : Parsed) → AreBytes input → parsed_call g input nth ≡ Some p → Asks g p.words (call_of input nth)) →
+    IsSound (hands_behavior g) (space_for g) (Stands g) (Stands g) (λ input nth b now. answer (room_of g) b now (call_of input nth))
+hands_sound g valid call_of asks = record {
   serves = λ input bytes nth p is setting pass served words b h now small notes told. hands_serve g valid setting pass p served (call_of input nth) (asks input nth p bytes is) now small words b h notes told;
 }

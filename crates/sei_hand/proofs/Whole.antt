@@ -14,8 +14,7 @@ use Rattle.sei_stmt.specs.Given.{given_of}
 use Rattle.sei_stmt.specs.Passes.{IsPassOf}
 use Rattle.sei_stmt.specs.Programs.{Block, Seq, Ends}
 use Rattle.sei_stmt.specs.Touch.{anything}
-use Rattle.sei_stmt.proofs.FrameLaws.{seq, any_program}
-use Rattle.sei_stmt.proofs.ServeLaws.{Ended}
+use Rattle.sei_stmt.proofs.Public.{seq, any_program, Ended}
 use Rattle.tab_find.specs.Answers.{IsBounded, CanAnswer, reply_at, Answered}
 use Rattle.tab_find.specs.FindPrograms.{moment_program}
 use Rattle.tab_find.specs.Found.{Arrived}

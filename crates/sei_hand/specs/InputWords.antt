@@ -28,7 +28,10 @@ filled_up n ws = ws ++ replicate (n - length ws) 0
 abbrev pub key_words : ℕ
 key_words = 32
 
--- The fields, then the key from word 14 on, then the block from word 46 on. Both are filled up, so that every call of a
--- geometry has as many words, and the room for them is known before any request is read.
-unfoldable pub input_words : Geometry → Call → List ℕ
-input_words g c = field_words c ++ filled_up key_words (pack c.key) ++ filled_up g.value_words (pack c.block)
+-- The fields, then the key from word 14 on, then the block from word 46 on. Both are filled up, the block to n words.
+unfoldable pub filled_input : ℕ → Call → List ℕ
+filled_input n c = field_words c ++ filled_up key_words (pack c.key) ++ filled_up n (pack c.block)
+
+-- Every call of a geometry has as many words, so the room for them is known before any request is read.
+abbrev pub input_words : Geometry → Call → List ℕ
+input_words g c = filled_input g.value_words c

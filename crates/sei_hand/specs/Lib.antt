@@ -4,3 +4,4 @@ pub mod ReadCall
 pub mod Commands
 pub mod Made
 pub mod Served
+pub mod HandsBehavior

@@ -8,10 +8,10 @@ ghost use Rattle.mc_model.specs.Views.{call_with, call_of, IsSpanOf};
 ghost use Rattle.mc_text.specs.Fits.{HasKey, HasOwnHash};
 ghost use Rattle.mc_model.specs.Call.{verb_number};
 ghost use Rattle.tab_find.specs.Calls.{mark};
-ghost use Rattle.sei_pass.specs.Spaces.{input_room};
-ghost use Rattle.sei_hand.specs.InputWords.{hash_word, field_words, filled_up, input_words};
+ghost use Rattle.sei_pass.specs.Spaces.{input_for};
+ghost use Rattle.sei_hand.specs.InputWords.{hash_word, field_words, filled_up, filled_input};
 
-use mc_model::{CallSpan, Geometry, Verb, pack};
+use mc_model::{CallSpan, Verb, pack};
 use sei_code::WordList;
 
 /// As many words as the longest key takes.
@@ -99,19 +99,20 @@ fn push_zeros(count: usize, into: &mut WordList)
     }
 }
 
-/// Fills the list, which is emptied first, with the input words of a call.
-pub fn fill(call: &CallSpan, input: &[u8], geometry: &Geometry, into: &mut WordList)
+/// Fills the list, which is emptied first, with the input words of a call. Those of its block are
+/// filled up to `words`.
+pub fn fill(call: &CallSpan, input: &[u8], words: u64, into: &mut WordList)
     requires places { IsSpanOf input.now call.now }
     requires hash { HasOwnHash input.now call.now }
     requires key { length (call_of input.now call.now).key ≤ 250 }
-    requires block { length (call_of input.now call.now).block ≤ 8 * geometry.now.value_words }
-    requires room { input_room geometry.now ≤ into.old.room }
-    ensures { into.new ≡ refilled into.old (input_words geometry.now (call_of input.now call.now)) }
+    requires block { length (call_of input.now call.now).block ≤ 8 * words }
+    requires room { input_for words ≤ into.old.room }
+    ensures { into.new ≡ refilled into.old (filled_input words (call_of input.now call.now)) }
 {
     let key = &input[call.key.from..call.key.to];
     let block = &input[call.block.from..call.block.to];
     into.clear();
     into.extend_from_slice(&field_words(call, key, block));
     push_filled_up(key, KEY_WORDS, into);
-    push_filled_up(block, geometry.value_words as usize, into);
+    push_filled_up(block, words as usize, into);
 }

@@ -5,6 +5,7 @@ ghost use Rattle.mc_model.specs.Server.{IsValid};
 ghost use Rattle.mc_model.specs.Views.{placed_of, IsSpanOf};
 ghost use Rattle.mc_render.specs.Rendering.{rendered};
 ghost use Rattle.mc_text.specs.Fits.{HasOwnHash};
+ghost use Rattle.sei_hand.specs.HandsBehavior.{hands_behavior};
 ghost use Rattle.sei_hand.specs.Commands.{hands_table};
 ghost use Rattle.sei_hand.specs.Requests.{limits_of, call_in, count_of_calls, parsed_call};
 ghost use Rattle.sei_hand.specs.ReadCall.{IsReadCall};
@@ -95,13 +96,7 @@ impl Hands {
 }
 
 impl Handler for Hands {
-    ghost statements = { hands_table };
-
-    ghost call_count = { count_of_calls };
-
-    ghost parsed = { parsed_call };
-
-    ghost rendered = { λ g. rendered (8 * g.value_words) };
+    ghost behavior = { hands_behavior };
 
     fn calls(&self, input: &[u8]) -> Option<u64> {
         let request = parse(input, &self.limits())?;
@@ -120,7 +115,7 @@ impl Handler for Hands {
                 None
             }
             Some(call) => {
-                fill(&call, input, &self.geometry, into);
+                fill(&call, input, self.geometry.value_words, into);
                 Some(call.bucket)
             }
         }

@@ -14,6 +14,7 @@ ghost use Rattle.mc_text.specs.Spells.{Spells};
 ghost use Rattle.sei_stmt.specs.declared.stmt.Stmt.{Stmt};
 ghost use Rattle.sei_stmt.specs.Handling.{Parsed, parsed_words};
 ghost use Rattle.sei_pass.specs.Spaces.{input_room, words_before_block};
+ghost use Rattle.sei_hand.specs.HandsBehavior.{hands_behavior};
 ghost use Rattle.sei_hand.specs.InputWords.{input_words};
 ghost use Rattle.sei_hand.specs.Requests.{limits_of, request_of, call_in, call_or_blank, count_of_calls, parsed_of, parsed_call};
 ghost use Rattle.mc_model.specs.Answer.{answer};
@@ -80,7 +81,7 @@ pub fn words_are_bounded()
 /// of their addresses.
 pub fn hands_are_sound()
     ensures { (g : Geometry) → IsValid g →
-        IsSound (hands_table g) (parsed_call g) (rendered (8 * g.value_words)) (space_for g) (Stands g) (Stands g)
+        IsSound (hands_behavior g) (space_for g) (Stands g) (Stands g)
         (λ input nth b now. answer (room_of g) b now (call_or_blank (call_in (limits_of g) input nth))) }
 {}
 
@@ -88,5 +89,5 @@ pub fn hands_are_sound()
 /// is said of their calls, in one.
 pub fn hands_are_a_sound_handler()
     ensures { (g : Geometry) → IsValid g →
-        IsSoundHandler (hands_table g) (count_of_calls g) (parsed_call g) (rendered (8 * g.value_words)) (space_for g) g.buckets (Stands g) (Stands g) (answer_of g) }
+        IsSoundHandler (hands_behavior g) (space_for g) g.buckets (Stands g) (Stands g) (answer_of g) }
 {}

@@ -122,16 +122,6 @@ pub take_whole : (log : List Change) → take (length log) log ≡ log
 take_whole [] = refl
 take_whole (x ∷ xs) = ap (λ ys. x ∷ ys) (take_whole xs)
 
-pub changes_ext : (xs ys : List Change) → ((i : ℕ) → slice_get xs i ≡ slice_get ys i) → xs ≡ ys
-changes_ext [] [] h = refl
-changes_ext [] (y ∷ ys) h = let e : None ≡ Some y = h 0 in absurd (let f : ⊥ = cc in f)
-changes_ext (x ∷ xs) [] h = let e : Some x ≡ None = h 0 in absurd (let f : ⊥ = cc in f)
-changes_ext (x ∷ xs) (y ∷ ys) h =
-    let e : Some x ≡ Some y = h 0 in
-    let f : x ≡ y = cc in
-    let r : xs ≡ ys = changes_ext xs ys (λ i. h (suc i)) in
-    cc
-
 pub get_past : (xs : List Change) (i : ℕ) → length xs ≤ i → slice_get xs i ≡ None
 get_past [] i h = refl
 get_past (x ∷ xs) zero h = absurd (omega (arith, h))

@@ -9,7 +9,7 @@ use Rattle.mc_text.specs.declared.request.Request.{Request}
 use Rattle.mc_text.specs.Meaning.{calls_of}
 use Rattle.mc_text.specs.Fits.{IsFit}
 use Rattle.mc_text.specs.Reading.{IsReading, meaning_at, calls_at}
-use Rattle.mc_text.proofs.FitLaws.{calls_fit}
+use Rattle.mc_text.proofs.Public.{calls_fit}
 use Rattle.sei_main.specs.Asked.{IsCallAt}
 
 -- a call of a request that was read

@@ -3,7 +3,7 @@ use Rattle.std.proofs.Common.{◌≡◌, ℕ, Bool, true, false, List, [], ◌�
 use Rattle.std.specs.Io.KnownBytes.{append_known}
 use Rattle.std.proofs.lemmas.List.{append-nil}
 use Rattle.sei_outside.specs.Bytes.{WrotePart}
-use Rattle.sei_outside.proofs.Parts.{wrote_both, wrote_last, wrote_part}
+use Rattle.sei_outside.proofs.Public.{wrote_both, wrote_last, wrote_part}
 use Rattle.mc_model.specs.Call.{Placed}
 use Rattle.sei_traverse.specs.declared.turned.State.{State}
 use Rattle.sei_traverse.specs.declared.turned.State.TheVariants.{Went, Finished, Refused, Aborted}

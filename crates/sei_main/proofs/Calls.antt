@@ -14,9 +14,7 @@ use Rattle.mc_text.specs.Fits.{IsFit}
 use Rattle.mc_text.specs.Parsed.{by_kind}
 use Rattle.mc_text.specs.Reading.{buckets_of, calls_at}
 use Rattle.mc_text.specs.Front.{front}
-use Rattle.mc_text.proofs.FrontLaws.{front_reads}
-use Rattle.mc_text.proofs.FitLaws.{calls_fit}
-use Rattle.mc_text.proofs.CallLaws.{words_few}
+use Rattle.mc_text.proofs.Public.{front_reads, calls_fit, words_few}
 use Rattle.sei_main.specs.Seats.{Seat, waiting}
 use Rattle.sei_main.specs.State.{next_request}
 use Rattle.sei_main.proofs.KeptServer.{StandsAt}

@@ -1,5 +1,5 @@
 -- What is wanted to be entered is the answer to the call.
-use Rattle.std.proofs.Common.{◌≡◌, inl, inr, ℕ, ◌+◌, ◌^◌, ◌<◌, List, Option, Some, refl, sym, ap, ◌∙◌, subst, arith}
+use Rattle.std.proofs.Common.{◌≡◌, ℕ, ◌+◌, ◌^◌, ◌<◌, List, Option, Some, refl, sym, ap, ◌∙◌, subst, arith}
 use Rattle.mc_model.specs.declared.geometry.Geometry.{Geometry}
 use Rattle.mc_model.specs.Answer.{answer}
 use Rattle.mc_model.specs.Bucket.{Bucket}
@@ -14,7 +14,7 @@ use Rattle.sei_stmt.specs.Passes.{notes_of}
 use Rattle.sei_stmt.specs.Passes.IsTold.{ByNotes}
 use Rattle.sei_stmt.specs.Sound.{Serves}
 use Rattle.sei_stmt.specs.Sound.Serves.{Well, Unfit}
-use Rattle.sei_stmt.proofs.HonestLaws.{still_halted, halts_or_aborts}
+use Rattle.sei_stmt.proofs.Public.{still_halted, halts_or_aborts}
 use Rattle.sei_pass.specs.declared.given.Sealed.{Sealed}
 use Rattle.sei_hand.specs.Requests.{parsed_of}
 use Rattle.sei_hand.specs.Served.{Stands}
@@ -27,7 +27,6 @@ use Rattle.sei_traverse.specs.Phases.{reply_of}
 use Rattle.sei_traverse.specs.Struck.{IsHonestResult}
 use Rattle.sei_traverse.specs.Trusted.{PassesGuard, second_setting}
 use Rattle.sei_main.specs.Errands.{errand_for}
-use Rattle.sei_main.proofs.CourseStep.{NotesNow}
 use Rattle.sei_main.proofs.TableLaws.{IsGood}
 
 -- the words stand for the bucket behind the call, the reply is its reply, and its time is noted
@@ -48,16 +47,12 @@ module _ (g : Geometry) (valid : IsValid g) (text : List ℕ) (now : ℕ) (small
       hands_serve g valid (second_setting e) (record { statements_are = refl; rendered_are = refl; budget_is = refl; slots_are = refl; free_are = refl })
       (parsed_of g p) (record { intact = fit.intact; parsed = fit.called; lent = refl }) p.call (call_is_asked g p good.read good.bytes) now small taken b held (notes_of now slot) (ByNotes refl slot refl)
 
-  same_time : (note : Option Coded) (time : ℕ) → note ≡ Some (seal time) → NotesNow now note → (time ≡ now) × (note ≡ Some (seal now))
-  same_time o time noted (inl none) = let z : ⊥ = cc in absurd z
-  same_time o time noted (inr is) = let same : seal time ≡ seal now = cc in (ap (λ (c : Coded). c.value) same, is)
-
   -- by an honest run on the words that were taken
-  pub is_answer : (w : Walk) (words : List ℕ) (asked : ℕ) → IsHonestResult e w words asked → NotesNow now w.notes.now → IsAnswer g now p b words w
-  is_answer w words asked a notes = by_end (serves a.aimed.fit a.slot)
+  pub is_answer : (w : Walk) (words : List ℕ) (asked : ℕ) → IsHonestResult e w words asked → IsAnswer g now p b words w
+  is_answer w words asked a = by_end (serves a.aimed.fit a.slot)
     where
       time : (a.time ≡ now) × (w.notes.now ≡ Some (seal now))
-      time = same_time w.notes.now a.time a.noted notes
+      time = (a.told, a.noted ∙ ap (λ (t : ℕ). let o : Option Coded = Some (seal t) in o) a.told)
 
       start : Machine
       start = renoted (notes_of now a.slot) (first_start e)

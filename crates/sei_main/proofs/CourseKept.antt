@@ -1,5 +1,5 @@
 -- All steps of the traversal of a call under a planned fault.
-use Rattle.std.proofs.Common.{◌≡◌, inl, ℕ, zero, suc, ◌+◌, ◌^◌, ◌<◌, ◌≤◌, List, length, Option, Some, None, refl, sym, ap, ◌∙◌, subst, arith}
+use Rattle.std.proofs.Common.{◌≡◌, ℕ, zero, suc, ◌+◌, ◌^◌, ◌<◌, ◌≤◌, List, length, Option, Some, None, refl, sym, ap, ◌∙◌, subst, arith}
 use Rattle.mc_model.specs.declared.geometry.Geometry.{Geometry}
 use Rattle.mc_model.specs.Call.{Placed}
 use Rattle.mc_model.specs.Packed.{AreBytes}
@@ -19,20 +19,19 @@ use Rattle.sei_traverse.specs.declared.turned.State.TheVariants.{Went, Finished,
 use Rattle.sei_traverse.specs.declared.turned.Want.{Want}
 use Rattle.sei_traverse.specs.declared.turned.Want.TheVariants.{Nothing, Take, Enter, Give, Send}
 use Rattle.sei_traverse.specs.Bounds.{most_steps, StepsWithin, StepsAfter}
-use Rattle.sei_traverse.specs.Service.{given_of}
+use Rattle.sei_traverse.specs.Given.{given_of}
 use Rattle.sei_traverse.specs.State.{IsTraversal, begun_walk, one_more}
 use Rattle.sei_traverse.specs.Step.{Turn, turn_tree}
 use Rattle.sei_traverse.specs.Walks.{IsWalk}
-use Rattle.sei_traverse.proofs.FactsLaws.{facts_begin}
-use Rattle.sei_traverse.proofs.StepsBound.{steps_bounded, begun_within}
+use Rattle.sei_traverse.proofs.Public.{facts_begin, steps_bounded, begun_within}
 use Rattle.sei_hand.specs.Requests.{parsed_of, parsed_call}
 use Rattle.sei_hand.proofs.PublicHands.{length_input_words}
 use Rattle.sei_main.specs.Course.{Course, loan_in, course_on, course_if, course_from, course_begun, course_of, served_behind}
-use Rattle.sei_main.specs.Errands.{service_for}
+use Rattle.sei_hand.specs.HandsBehavior.{hands_behavior}
 use Rattle.sei_main.specs.Tables.{AreServer}
 use Rattle.sei_main.proofs.CourseShape.{Shape, shape_on, tables, errand_at}
 use Rattle.sei_main.proofs.CourseShape.Shape.{Before}
-use Rattle.sei_main.proofs.CourseStep.{traversal, none_asked, NotesNow, kept, course_step, kept, notes_now, stays_within}
+use Rattle.sei_main.proofs.CourseStep.{traversal, none_asked, kept, course_step, kept, stays_within}
 use Rattle.sei_main.proofs.HandsTrusted.{IsSealedCall}
 use Rattle.sei_main.proofs.ScriptedRuns.{one_falls, unplanned, unplanned_stays}
 use Rattle.sei_main.proofs.TableLaws.{IsGood}
@@ -48,7 +47,7 @@ module _ (g : Geometry) (text : List ℕ) (now : ℕ) where
   unplanned_on : (c : Course) (asked : ℕ) → c.core ≡ unplanned asked → (n : ℕ) × ((course_on g text now c).core ≡ unplanned n)
   unfolding course_on
   unplanned_on c asked e =
-      let tree = turn_tree (given_of (service_for g) text (pass_space g) (bucket_of (loan_in c.buckets c.lent))) now now c.walk (words_of (loan_in c.buckets c.lent)) in
+      let tree = turn_tree (given_of (hands_behavior g) text (pass_space g) (bucket_of (loan_in c.buckets c.lent))) now now c.walk (words_of (loan_in c.buckets c.lent)) in
       let rest = unplanned_stays tree asked in
       (rest.0, ap (λ (s : ScriptState). (scripted script_answer script_next tree s).1) e ∙ rest.1)
 
@@ -65,7 +64,18 @@ module _ (g : Geometry) (text : List ℕ) (now : ℕ) where
 
 -- a walk that begins is laid out
 begun_pass : (g : Geometry) → IsValid g → IsPass (new_pass (pass_space g))
-begun_pass g valid = record { valid = valid; space = record { input = refl; output = refl; bytes = refl; log = refl; budget = refl }; registers = refl; input = refl; output = refl; bytes = refl; made = omega arith; fits = omega arith; bytes_fit = omega arith; input_fits = omega arith }
+begun_pass g valid = record {
+  valid = valid;
+  space = record { words = omega arith; input = refl; output = refl; bytes = refl; log = refl; budget = refl };
+  registers = refl;
+  input = refl;
+  output = refl;
+  bytes = refl;
+  made = omega arith;
+  fits = omega arith;
+  bytes_fit = omega arith;
+  input_fits = omega arith;
+}
 
 begun_laid_out : (g : Geometry) (sealed : Sealed) → IsValid g → IsWalk (begun_walk (pass_space g) sealed)
 begun_laid_out g sealed valid = record {
@@ -86,13 +96,8 @@ module _ (g : Geometry) (text : List ℕ) (now : ℕ) (buckets : List BucketWord
   pub record OnCourse (c : Course) (steps : ℕ) : Type 0 where
     pub shape : Shape g text now buckets s sealed p c steps
     pub of_sealed : c.walk.sealed ≡ sealed
-    pub notes : NotesNow now c.walk.notes.now
     pub rooms : IsTraversal (traversal g c.walk steps)
     pub within : StepsAfter (traversal g c.walk steps) none_asked (script_counts c.core) c.served.state
-
-  notes_on : (c : Course) → NotesNow now c.walk.notes.now → NotesNow now (course_on g text now c).walk.notes.now
-  unfolding course_on
-  notes_on c h = notes_now g text now c.walk (loan_in c.buckets c.lent) c.core h
 
   sealed_on : (c : Course) → c.walk.sealed ≡ sealed → (course_on g text now c).walk.sealed ≡ sealed
   unfolding course_on
@@ -128,9 +133,8 @@ module _ (g : Geometry) (text : List ℕ) (now : ℕ) (buckets : List BucketWord
 
   on_course : (c : Course) (steps : ℕ) → suc steps < 2 ^ 64 → c.served.state ≡ Went → OnCourse c steps → OnCourse (course_on g text now c) (suc steps)
   on_course c steps few went h = subst (OnCourse (course_on g text now c)) (one_more_is steps few) (record {
-    shape = shape_on g text now buckets s sealed p valid bytes small good is_call are c steps went h.notes h.shape;
+    shape = shape_on g text now buckets s sealed p valid bytes small good is_call are c steps went h.shape;
     of_sealed = sealed_on c h.of_sealed;
-    notes = notes_on c h.notes;
     rooms = rooms_on c steps (one_more steps) h.of_sealed h.rooms;
     within = within_on c steps h.rooms (subst (StepsAfter (traversal g c.walk steps) none_asked (script_counts c.core)) went h.within);
   })
@@ -181,7 +185,6 @@ module _ (g : Geometry) (text : List ℕ) (now : ℕ) (buckets : List BucketWord
       known = λ k lt. facts_begin (errand_at g text now buckets s sealed p k) none_asked;
     });
     of_sealed = refl;
-    notes = inl refl;
     rooms = record { walk = begun_laid_out g sealed valid; space = refl };
     within = begun_within (pass_space g) sealed none_asked;
   }

@@ -29,7 +29,7 @@ use Rattle.sei_pass.specs.Spaces.{pass_space}
 use Rattle.sei_traverse.specs.Bounds.{most_steps}
 use Rattle.sei_traverse.specs.Errand.{given_in}
 use Rattle.sei_traverse.specs.Facts.{FactsAfter, IsUnfitInput, IsAborted}
-use Rattle.sei_traverse.specs.Service.{has_sealed_call}
+use Rattle.sei_traverse.specs.Given.{has_sealed_call}
 use Rattle.sei_main.specs.declared.world.service.Entered.{Entered}
 use Rattle.sei_main.specs.declared.world.service.Numbers.{Numbers}
 use Rattle.sei_main.specs.Course.{Course, course_begun, course_of}

@@ -35,13 +35,13 @@ use Rattle.sei_traverse.specs.State.{TraversalState, one_more}
 use Rattle.sei_traverse.specs.Step.{Turn}
 use Rattle.sei_traverse.specs.Struck.{IsHonestResult, HasCopyOfSome}
 use Rattle.sei_traverse.specs.Trusted.{IsTrusted}
-use Rattle.sei_traverse.proofs.FactsLaws.{facts_lent, facts_given}
+use Rattle.sei_traverse.proofs.Public.{facts_lent, facts_given}
 use Rattle.sei_main.specs.declared.world.service.Entered.{Entered}
 use Rattle.sei_main.specs.Course.{Course, loan_in, put_back, lent_behind, entered_by, served_behind, course_on}
 use Rattle.sei_main.specs.Errands.{errand_for}
 use Rattle.sei_main.specs.Tables.{Tables, bucket_words, AreServer, IsBucketImage}
 use Rattle.sei_main.proofs.CourseAnswers.{IsAnswer, is_answer}
-use Rattle.sei_main.proofs.CourseStep.{traversal, none_asked, NotesNow, course_step, notes_now, isolates}
+use Rattle.sei_main.proofs.CourseStep.{traversal, none_asked, course_step, isolates}
 use Rattle.sei_main.proofs.HandsTrusted.{IsSealedCall, hands_are_trusted}
 use Rattle.sei_main.proofs.TableLaws.{IsGood}
 
@@ -180,15 +180,15 @@ module _ (g : Geometry) (text : List ℕ) (now : ℕ) (buckets : List BucketWord
     trusted k lt = hands_are_trusted g valid text bytes sealed p is_call (bucket_words tables k).words (bucket_at s k) (are.each k lt).stands now small
 
     -- the answer, from the bucket that is the call's
-    answers : (k : ℕ) → k < g.buckets → k ≡ p.bucket → (w : Walk) (words : List ℕ) (asked : ℕ) → IsHonestResult (errand_at k) w words asked → NotesNow now w.notes.now → IsAnswer g now p (bucket_at s p.bucket) words w
-    answers k lt mine w words asked a notes =
+    answers : (k : ℕ) → k < g.buckets → k ≡ p.bucket → (w : Walk) (words : List ℕ) (asked : ℕ) → IsHonestResult (errand_at k) w words asked → IsAnswer g now p (bucket_at s p.bucket) words w
+    answers k lt mine w words asked a =
         subst (λ (b : ℕ). IsAnswer g now p (bucket_at s b) words w) mine
-        (is_answer g valid text now small sealed p good (bucket_words tables k).words (bucket_at s k) (are.each k lt).stands w words asked a notes)
+        (is_answer g valid text now small sealed p good (bucket_words tables k).words (bucket_at s k) (are.each k lt).stands w words asked a)
 
     some_bucket : 0 < g.buckets
     some_bucket = omega (arith, valid.some_buckets)
 
-    module _ (c : Course) (steps : ℕ) (went : c.served.state ≡ Went) (notes : NotesNow now c.walk.notes.now) where
+    module _ (c : Course) (steps : ℕ) (went : c.served.state ≡ Went) where
       -- the facts of a course that goes on
       facts : (k : ℕ) (lent : Option (List ℕ)) → Known c steps k lent → Facts (errand_at k) (traversal g c.walk steps) lent none_asked (script_counts c.core)
       facts k lent known = subst (λ (state : State). FactsAfter (errand_at k) (traversal g c.walk steps) lent none_asked (script_counts c.core) state) went known
@@ -308,9 +308,6 @@ module _ (g : Geometry) (text : List ℕ) (now : ℕ) (buckets : List BucketWord
         lent_enter : (y.0.state ≡ Went → LendsWanted y.0.walk (Some left)) → IsLent (onward WantEnter) (one_more steps) k left
         lent_enter lends = record { inside = l.inside; lent = l.lent; bucket = l.bucket; laid_out = l.laid_out; set = put_left; message = l.message; lends = lends; known = still_is.goes }
 
-        notes_then : NotesNow now y.0.walk.notes.now
-        notes_then = notes_now g text now c.walk (Some w) c.core notes
-
         -- the words are those of the answer
         module _ (low : 2 ≤ c.walk.gate.done) (high : c.walk.gate.done ≤ 7) (unentered : c.served.entered ≡ None) where
           lent_stays : (want : Want) → want ≡ Nothing → 2 ≤ y.0.walk.gate.done → y.0.walk.gate.done ≤ 7 → (y.0.state ≡ Went → LendsOn y.0.walk (Some left) want) → Shape (onward want) (one_more steps)
@@ -321,7 +318,7 @@ module _ (g : Geometry) (text : List ℕ) (now : ℕ) (buckets : List BucketWord
               Shape (onward WantEnter) (one_more steps)
           enters gate asked wanted bucket lends =
               let mine : k ≡ p.bucket = sym l.bucket ∙ bucket in
-              let a = answers k l.inside mine y.0.walk y.0.words asked wanted notes_then in
+              let a = answers k l.inside mine y.0.walk y.0.words asked wanted in
               Entry k left gate mine (lent_enter lends) (record {
                 entered = ap (λ (e : Entered). let o : Option Entered = Some e in o) (entry_is now y.0.walk reply_now a.noted a.reply);
                 replies = λ h right. a.reply;
@@ -370,7 +367,7 @@ module _ (g : Geometry) (text : List ℕ) (now : ℕ) (buckets : List BucketWord
 
           gives_back : y.0.walk.gate.done ≡ 9 → (asked : ℕ) → Wanted (errand_at k) y.0.walk (Some left.words) asked WantGive → (y.0.state ≡ Went → LendsWanted y.0.walk None) → Shape (onward WantGive) (one_more steps)
           gives_back gate asked wanted lends =
-              let a = answers k l.inside mine y.0.walk y.0.words asked wanted notes_then in
+              let a = answers k l.inside mine y.0.walk y.0.words asked wanted in
               Given k left (record {
                 gate = omega (arith, gate);
                 inside = l.inside;

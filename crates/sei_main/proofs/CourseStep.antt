@@ -1,34 +1,29 @@
 -- One step of the traversal of a call under a planned fault: what is known of it is known behind it.
-use Rattle.std.proofs.Common.{◌≡◌, ◌⊎◌, inr, ℕ, List, true, Option, Some, None, refl, sym, ap, ◌∙◌, subst, arith}
+use Rattle.std.proofs.Common.{◌≡◌, ℕ, List, true, Option, Some, None, refl, sym, subst, arith}
 use Rattle.mc_model.specs.declared.geometry.Geometry.{Geometry}
-use Rattle.sei_code.specs.Coded.{sealed as seal}
-use Rattle.sei_code.specs.declared.coded.Coded.{Coded}
 use Rattle.sei_fault.specs.Counts.{Counts}
 use Rattle.sei_fault.specs.Question.{Question, Answer}
 use Rattle.sei_fault.specs.Script.{ScriptState, script_begin, script_answer, script_next, script_counts}
 use Rattle.sei_fault.specs.ScriptLaw.{script_lawful}
 use Rattle.sei_fault.specs.Scripted.{function_core}
-use Rattle.sei_fault.proofs.Runs.{always}
+use Rattle.sei_fault.proofs.Public.{always}
 use Rattle.sei_words.specs.Loan.{words_of, bucket_of}
 use Rattle.sei_words.specs.Words.{BucketWords}
 use Rattle.sei_traverse.specs.declared.walk.Walk.{Walk}
 use Rattle.sei_traverse.specs.Bounds.{StepsWithin, StepsAfter}
 use Rattle.sei_traverse.specs.Errand.{Errand}
 use Rattle.sei_traverse.specs.Facts.{Facts, LendsWanted, Isolates}
-use Rattle.sei_traverse.specs.Noting.{NotesTime}
-use Rattle.sei_traverse.specs.Noting.NotesTime.{Same, Noted}
 use Rattle.sei_traverse.specs.OnWay.{lent_words, TellsAs}
 use Rattle.sei_pass.specs.Spaces.{pass_space}
-use Rattle.sei_traverse.specs.Service.{Given, given_of}
+use Rattle.sei_traverse.specs.Given.{Given, given_of}
 use Rattle.sei_traverse.specs.State.{TraversalState, IsTraversal, one_more}
 use Rattle.sei_traverse.specs.Step.{Turn, turn, turn_tree, TimedTwice}
 use Rattle.sei_traverse.specs.Trusted.{IsTrusted}
-use Rattle.sei_traverse.proofs.Isolated.{isolates_one}
-use Rattle.sei_traverse.proofs.NotingLaws.{notes_time}
-use Rattle.sei_traverse.proofs.StepsBound.{steps_after_turned}
+use Rattle.sei_traverse.specs.Running.{On, on, StepsTo}
+use Rattle.sei_traverse.proofs.PublicSteps.{step_isolates, step_within}
 use Rattle.sei_main.specs.Course.{turned}
 use Rattle.sei_hand.specs.Requests.{parsed_call}
-use Rattle.sei_main.specs.Errands.{service_for}
+use Rattle.sei_hand.specs.HandsBehavior.{hands_behavior}
 use Rattle.sei_main.proofs.ScriptedRuns.{runs_scripted, one_falls}
 use Rattle.sei_traverse.proofs.PublicLoans.{left_in, left_place, left_words}
 use Rattle.sei_traverse.proofs.PublicWalkKept.{KeepsWalk, turn_kept}
@@ -46,20 +41,12 @@ tells : (now : ℕ) (o : Option ℕ) → o ≡ Some now → TellsAs o (Some now)
 tells now None e = absurd cc
 tells now (Some time) e = sym e
 
--- the noted time is that of the call, where one is noted
-abbrev pub NotesNow : ℕ → Option Coded → Type 0
-NotesNow now note = (note ≡ None) ⊎ (note ≡ Some (seal now))
-
-notes_on : (now : ℕ) (before after : Option Coded) → NotesNow now before → NotesTime (Some now) before after → NotesNow now after
-notes_on now before after h (Same e) = subst (NotesNow now) (sym e) h
-notes_on now before after h (Noted time is e) = inr (e ∙ ap (λ (t : ℕ). let o : Option Coded = Some (seal t) in o) is)
-
 module _ (g : Geometry) (text : List ℕ) (now : ℕ) (w : Walk) (loan : Option BucketWords) (core : ScriptState) where
   abbrev gives : ScriptState → (q : Question) → Answer q → ScriptState → Type 0
   gives = function_core script_answer script_next
 
   abbrev given : Given
-  given = given_of (service_for g) text (pass_space g) (bucket_of loan)
+  given = given_of (hands_behavior g) text (pass_space g) (bucket_of loan)
 
   -- how it turns out
   abbrev pub course_step : Turn × ScriptState
@@ -73,20 +60,29 @@ module _ (g : Geometry) (text : List ℕ) (now : ℕ) (w : Walk) (loan : Option 
   unfolding runs
   kept = always gives (λ (y : Turn). KeepsWalk (pass_space g) (parsed_call g text) w (words_of loan) y.walk y.words) (turn_tree given now now w (words_of loan)) core course_step.1 course_step.0 (turn_kept (pass_space g) (parsed_call g text) w (words_of loan) given refl refl now now) runs.runs
 
-  -- no other time is noted
-  pub notes_now : NotesNow now w.notes.now → NotesNow now course_step.0.walk.notes.now
-  notes_now h = notes_on now w.notes.now course_step.0.walk.notes.now h (notes_time (Some now) gives given w course_step.0.walk (words_of loan) course_step.0.words course_step.0.state core course_step.1 runs)
+  abbrev before : ℕ → On ScriptState
+  before steps = on (traversal g w steps) loan core
+
+  abbrev after : ℕ → On ScriptState
+  after steps = on (traversal g course_step.0.walk (one_more steps)) (left_in loan course_step.0.words) course_step.1
+
+  steps_to : (steps : ℕ) → StepsTo gives (Some now) (hands_behavior g) text (before steps) (after steps) course_step.0.state
+  steps_to steps = record {
+    turned = subst (λ (ws : List ℕ). TimedTwice gives (Some now) (λ now later. turn_tree given now later w (words_of loan)) core course_step.1 (turn course_step.0.walk ws course_step.0.state)) (sym (left_words loan course_step.0.words kept.long)) runs;
+    lent = left_place loan course_step.0.words;
+    sealed = kept.sealed;
+    space = refl;
+    steps = refl;
+  }
 
   -- the number of steps stays bounded
   pub stays_within : (begin : Counts) (steps : ℕ) → IsTraversal (traversal g w steps) → StepsWithin (traversal g w steps) begin (script_counts core) →
       StepsAfter (traversal g course_step.0.walk (one_more steps)) begin (script_counts course_step.1) course_step.0.state
-  stays_within begin steps is within =
-      steps_after_turned gives script_counts script_lawful (Some now) given (words_of loan) course_step.0.words begin (traversal g w steps) (traversal g course_step.0.walk (one_more steps)) course_step.0.state core course_step.1 runs is refl refl within
+  stays_within begin steps is within = step_within gives script_counts script_lawful (Some now) (hands_behavior g) text (before steps) (after steps) course_step.0.state (steps_to steps) begin is within
 
   -- one strike is isolated
-  pub isolates : (e : Errand) (steps : ℕ) → IsTrusted e → e.service ≡ service_for g → e.input ≡ text → e.clock ≡ Some now → LendsWanted w loan → Facts e (traversal g w steps) (lent_words loan) none_asked (script_counts core) →
+  pub isolates : (e : Errand) (steps : ℕ) → IsTrusted e → e.behavior ≡ hands_behavior g → e.input ≡ text → e.clock ≡ Some now → LendsWanted w loan → Facts e (traversal g w steps) (lent_words loan) none_asked (script_counts core) →
       Isolates e (traversal g w steps) (traversal g course_step.0.walk (one_more steps)) loan (left_in loan course_step.0.words) none_asked (script_counts course_step.1) course_step.0.walk.want course_step.0.state
-  isolates e steps trusted service input clock lends facts =
-      isolates_one gives script_counts script_lawful (Some now) e none_asked (traversal g w steps) (traversal g course_step.0.walk (one_more steps)) loan (left_in loan course_step.0.words) course_step.0.state core course_step.1 (service_for g) text service input
-      (subst (λ (ws : List ℕ). TimedTwice gives (Some now) (λ now later. turn_tree given now later w (words_of loan)) core course_step.1 (turn course_step.0.walk ws course_step.0.state)) (sym (left_words loan course_step.0.words kept.long)) runs)
-      (left_place loan course_step.0.words) refl refl kept.sealed trusted (tells now e.clock clock) lends facts (omega (arith, one_falls course_step.1.stage))
+  isolates e steps trusted behavior input clock lends facts =
+      step_isolates gives script_counts script_lawful (Some now) (hands_behavior g) text (before steps) (after steps) course_step.0.state (steps_to steps) e none_asked
+      trusted (tells now e.clock clock) behavior input lends facts (omega (arith, one_falls course_step.1.stage))

@@ -14,7 +14,7 @@ use Rattle.sei_hand.proofs.PublicHands.{sound_hands}
 use Rattle.sei_traverse.specs.Errand.{Errand, TellsTime}
 use Rattle.sei_traverse.specs.Sound.{IsServedBy}
 use Rattle.sei_traverse.specs.Trusted.{IsTrusted}
-use Rattle.sei_traverse.proofs.TrustLaws.{sound_is_trusted}
+use Rattle.sei_traverse.proofs.Public.{sound_is_trusted}
 use Rattle.sei_main.specs.Errands.{errand_for}
 
 -- the errand of a call, by a clock that may tell its answer

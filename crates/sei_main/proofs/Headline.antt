@@ -4,11 +4,11 @@ use Rattle.std.specs.Prelude.{IfSome, All}
 use Rattle.std.specs.Io.KnownBytes.{append_known}
 use Rattle.std.proofs.lemmas.List.{append-nil}
 use Rattle.sei_outside.specs.Bytes.{WrotePart}
-use Rattle.sei_outside.proofs.Parts.{wrote_nothing}
+use Rattle.sei_outside.proofs.Public.{wrote_nothing}
 use Rattle.sei_script.specs.declared.line.ScriptLine.{ScriptLine}
 use Rattle.sei_script.specs.Limits.{script_limit}
 use Rattle.sei_script.specs.Reading.{Reading, Reads, Fails}
-use Rattle.sei_script.proofs.SaysLaws.{reads_bytes}
+use Rattle.sei_script.proofs.Public.{reads_bytes}
 use Rattle.sei_main.specs.Answers.{StatusSays, OnScript, OnInput, IfReads, IfScript, WrotePlainPart, output_of, HasRun, IsDecided, RanTo, end_status, is_aborted, reading_in}
 use Rattle.sei_main.specs.Headline.{WhenQuiet}
 use Rattle.sei_main.specs.declared.status.Status.{Status}

@@ -9,7 +9,7 @@ use Rattle.mc_text.specs.declared.limits.Limits.{Limits}
 use Rattle.mc_text.specs.Meaning.{Meaning, calls_of, ends_connection}
 use Rattle.mc_text.specs.Front.{front}
 use Rattle.mc_text.specs.Stream.{Takes, up_to_end, requests}
-use Rattle.mc_text.proofs.StreamLaws.{takes_more, takes_push}
+use Rattle.mc_text.proofs.Public.{takes_more, takes_push}
 use Rattle.sei_main.specs.History.{Entry, placed_in}
 use Rattle.sei_main.specs.Own.{AreCounted, calls_in, message_of, messages_of}
 use Rattle.sei_main.specs.Seats.{Seat, empty_seat, waiting, fed_more, taken_more}

@@ -9,7 +9,7 @@ use Rattle.mc_text.specs.declared.limits.Limits.{Limits}
 use Rattle.mc_text.specs.Meaning.{Meaning, calls_of}
 use Rattle.mc_text.specs.Front.{front}
 use Rattle.mc_text.specs.Stream.{Takes, requests, up_to_end, own_requests}
-use Rattle.mc_text.proofs.StreamLaws.{no_requests, takes_requests}
+use Rattle.mc_text.proofs.Public.{no_requests, takes_requests}
 use Rattle.sei_fault.specs.declared.plan.Planned.{Planned}
 use Rattle.sei_script.specs.declared.line.ScriptLine.{ScriptLine}
 use Rattle.sei_script.specs.Context.{empty_context, geometry_of}

@@ -1,4 +1,5 @@
 pub mod Written
+pub mod NoFault
 pub mod Steps
 pub mod Rounds
 pub mod Stepping

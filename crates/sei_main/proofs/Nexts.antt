@@ -8,7 +8,7 @@ use Rattle.mc_text.specs.Spells.{Begins}
 use Rattle.mc_text.specs.Reads.{IsMore}
 use Rattle.mc_text.specs.Reading.{BeginsAs, length_of, meaning_at}
 use Rattle.mc_text.specs.Front.{front}
-use Rattle.mc_text.proofs.FrontLaws.{front_reads, begins_front}
+use Rattle.mc_text.proofs.Public.{front_reads, begins_front}
 use Rattle.sei_main.specs.Seats.{Seat, waiting}
 use Rattle.sei_main.specs.State.{next_request}
 use Rattle.sei_main.specs.Becomes.{IsNextOf}

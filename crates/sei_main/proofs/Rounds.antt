@@ -5,7 +5,7 @@ use Rattle.std.proofs.lemmas.List.{length-drop, length-set, length_push}
 use Rattle.mc_text.specs.declared.limits.Limits.{Limits}
 use Rattle.mc_text.specs.Meaning.{Meaning}
 use Rattle.mc_text.specs.Front.{front}
-use Rattle.mc_text.proofs.StreamLaws.{front_length}
+use Rattle.mc_text.proofs.Public.{front_length}
 use Rattle.sei_script.specs.declared.line.ScriptLine.{ScriptLine}
 use Rattle.sei_script.specs.declared.line.ScriptLine.TheVariants as lines
 use Rattle.sei_script.specs.declared.line.Context.{Context}

@@ -6,7 +6,7 @@ use Rattle.sei_script.specs.Reading.{Reads}
 use Rattle.sei_main.specs.Answers.{reading_in}
 use Rattle.std.specs.Prelude.{All}
 use Rattle.sei_script.specs.SaysBytes.{SaysBytes}
-use Rattle.sei_script.proofs.Fit.{reads_fit, reads_valid}
+use Rattle.sei_script.proofs.Public.{reads_fit, reads_valid}
 use Rattle.sei_main.proofs.Laws.{IsRunnable}
 
 pub reads_runnable : (input : List ℕ) (script : List ScriptLine) → reading_in input ≡ Reads script → All SaysBytes script → IsRunnable script

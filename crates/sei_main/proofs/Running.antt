@@ -3,7 +3,7 @@ use Rattle.std.proofs.Common.{◌≡◌, ℕ, Bool, List, [], ◌∷◌, ◌++�
 use Rattle.sei_script.specs.AbortLines.{end_text}
 use Rattle.std.specs.Io.KnownBytes.{append_known}
 use Rattle.sei_outside.specs.Bytes.{WrotePart}
-use Rattle.sei_outside.proofs.Parts.{wrote_both, wrote_first, wrote_last}
+use Rattle.sei_outside.proofs.Public.{wrote_both, wrote_first, wrote_last}
 use Rattle.sei_script.specs.declared.line.ScriptLine.{ScriptLine}
 use Rattle.sei_main.specs.Events.{Event}
 use Rattle.sei_main.specs.Seats.{Seat}

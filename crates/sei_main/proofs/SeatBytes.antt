@@ -6,7 +6,7 @@ use Rattle.mc_text.specs.declared.limits.Limits.{Limits}
 use Rattle.mc_text.specs.Meaning.{Meaning}
 use Rattle.mc_text.specs.Spells.{Spells}
 use Rattle.mc_text.specs.Front.{front}
-use Rattle.mc_text.proofs.FrontLaws.{front_reads}
+use Rattle.mc_text.proofs.Public.{front_reads}
 use Rattle.sei_main.specs.Seats.{Seat, empty_seat, waiting}
 use Rattle.sei_main.specs.State.{next_request}
 

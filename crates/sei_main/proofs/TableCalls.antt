@@ -18,8 +18,8 @@ use Rattle.sei_hand.proofs.PublicHands.{found_bytes}
 use Rattle.sei_hand.proofs.PublicHands.{request_spelled, found_call}
 use Rattle.sei_main.specs.Asked.{IsCallAt}
 use Rattle.sei_main.specs.State.{limits_of}
-use Rattle.sei_traverse.specs.Service.{has_call}
-use Rattle.sei_traverse.proofs.Branches.{below}
+use Rattle.sei_traverse.specs.Given.{has_call}
+use Rattle.sei_traverse.proofs.Public.{below}
 use Rattle.sei_main.proofs.TableLaws.{IsGood}
 use Rattle.sei_pass.specs.Spaces.{input_room}
 use Rattle.sei_stmt.specs.Handling.{Parsed, parsed_words}

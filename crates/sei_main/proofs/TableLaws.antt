@@ -11,7 +11,7 @@ use Rattle.mc_model.specs.Call.{Placed}
 use Rattle.mc_model.specs.Server.{IsValid, Server, empty_server, bucket_at}
 use Rattle.std.proofs.lemmas.List.FromFn.{length-map-range_with_len, get_or-map-range_with_len}
 use Rattle.sei_words.specs.Words.{BucketWords, fresh_words}
-use Rattle.sei_words.proofs.FreshLaws.{fresh_stands}
+use Rattle.sei_words.proofs.Public.{fresh_stands}
 use Rattle.mc_text.specs.Fits.{HasBytes}
 use Rattle.sei_hand.specs.ReadCall.{IsReadCall}
 use Rattle.sei_hand.specs.Served.{Stands}

@@ -6,7 +6,7 @@ use Rattle.mc_model.specs.declared.geometry.Geometry.{Geometry}
 use Rattle.sei_fault.specs.Script.{ScriptState, script_answer, script_next, script_counts}
 use Rattle.sei_fault.specs.Scripted.{function_core}
 use Rattle.sei_fault.specs.Tree.{Runs}
-use Rattle.sei_fault.proofs.Scripted.{scripted_runs}
+use Rattle.sei_fault.proofs.Public.{scripted_runs}
 use Rattle.sei_words.specs.Loan.{Place, place_of, words_of, bucket_of}
 use Rattle.sei_words.specs.Words.{BucketWords}
 use Rattle.sei_traverse.specs.declared.turned.State.{State}
@@ -18,12 +18,12 @@ use Rattle.sei_traverse.specs.declared.walk.Walk.{Walk}
 use Rattle.sei_traverse.specs.Bounds.{StepsWithin, StepsAfter}
 use Rattle.sei_pass.specs.declared.spaces.PassSpace.{PassSpace}
 use Rattle.sei_pass.specs.Spaces.{pass_space}
-use Rattle.sei_traverse.specs.Service.{given_of}
+use Rattle.sei_traverse.specs.Given.{given_of}
 use Rattle.sei_traverse.specs.State.{TraversalState, IsTraversal, one_more, is_running}
 use Rattle.sei_traverse.specs.Step.{Turn, turn, turn_tree, TimedTwice}
 use Rattle.sei_main.specs.declared.world.service.Served.{Served}
 use Rattle.sei_main.specs.Course.{Course, loan_in, put_back, lent_behind, served_behind, is_ended, turned, met, course_on, course_if, course_from}
-use Rattle.sei_main.specs.Errands.{service_for}
+use Rattle.sei_hand.specs.HandsBehavior.{hands_behavior}
 use Rattle.sei_main.specs.Tables.{IsOfGeometry}
 use Rattle.sei_main.specs.Turning.{IsStep, IsTurn}
 
@@ -31,10 +31,10 @@ use Rattle.sei_main.specs.Turning.{IsStep, IsTurn}
 
 -- what the code's step does is what the definition's does
 pub turn_is : (g : Geometry) (text : List ℕ) (now : ℕ) (loan : Option BucketWords) (words : List ℕ) (old : TraversalState) (walk : Walk) (state : State) (core later : ScriptState) → old.space ≡ pass_space g →
-    TimedTwice (function_core script_answer script_next) (Some now) (λ now later. turn_tree (given_of (service_for g) text old.space (bucket_of loan)) now later old.walk (words_of loan)) core later (turn walk words state) →
+    TimedTwice (function_core script_answer script_next) (Some now) (λ now later. turn_tree (given_of (hands_behavior g) text old.space (bucket_of loan)) now later old.walk (words_of loan)) core later (turn walk words state) →
     turned g text now old.walk loan core ≡ (record { walk = walk; words = words; state = state }, later)
 turn_is g text now loan words old walk state core later e t =
-    let tree = λ (x : PassSpace) (a b : ℕ). turn_tree (given_of (service_for g) text x (bucket_of loan)) a b old.walk (words_of loan) in
+    let tree = λ (x : PassSpace) (a b : ℕ). turn_tree (given_of (hands_behavior g) text x (bucket_of loan)) a b old.walk (words_of loan) in
     let gives = function_core script_answer script_next in
     let x : Turn = turn walk words state in
     let first : Runs gives (tree old.space now t.later) core later x = subst (λ (n : ℕ). Runs gives (tree old.space n t.later) core later x) t.answer t.runs in
@@ -138,7 +138,28 @@ pub record Underway (g : Geometry) (text : List ℕ) (now limit : ℕ) (start : 
   pub rooms : 0 < k → IsTraversal t
   pub within : StepsWithin t (script_counts start.core) (script_counts core)
 
-module _ (g : Geometry) (text : List ℕ) (now limit : ℕ) (start : Course) (k : ℕ) (old new : TraversalState) (before after : List BucketWords) (lent : Option ℕ) (core later : ScriptState) (served : Served) (t : Turned)
+-- a state either has ended or goes on
+not_ended : (state : State) → is_ended state ≡ true → state ≡ Went → ⊥
+not_ended state e f = let z : false ≡ true = ap is_ended (sym f) ∙ e in cc
+
+still_goes : (state : State) → is_ended state ≡ false → state ≡ Went
+still_goes Went e = refl
+still_goes Finished e = let z : ⊥ = cc in absurd z
+still_goes Refused e = let z : ⊥ = cc in absurd z
+still_goes (Aborted abort) e = let z : ⊥ = cc in absurd z
+
+-- how it turned out is told
+state_behind : (want : Want) (w : Walk) (s : Served) (state : State) → (served_behind want w s state).state ≡ state
+state_behind want w s state = by want
+  where
+    by : (want : Want) → (served_behind want w s state).state ≡ state
+    by Nothing = refl
+    by (Take b) = refl
+    by Enter = refl
+    by Give = refl
+    by Send = refl
+
+module _ {g : Geometry} {text : List ℕ} {now limit : ℕ} {start : Course} {k : ℕ} {old new : TraversalState} {before after : List BucketWords} {lent : Option ℕ} {core later : ScriptState} {served : Served} {t : Turned}
     (u : Underway g text now limit start k old before lent core served) (st : IsTurn g text now lent old new before after core later t) (lt : k < limit) where
   abbrev next : Course
   next = course_at new after (lent_behind t.want lent) later (served_behind t.want new.walk served t.state)
@@ -159,16 +180,17 @@ module _ (g : Geometry) (text : List ℕ) (now limit : ℕ) (start : Course) (k 
       ∙ sym (ap (λ (n : ℕ). course_from g text now n c) one) ∙ u.rest
 
   -- behind a step that does not go on
-  pub ended : (t.state ≡ Went → ⊥) → (state : State) → (served_behind t.want new.walk served t.state).state ≡ state → state ≡ t.state → next ≡ course_from g text now limit start
-  ended h state e f = sym (ended_stays g text now (limit - (k + 1)) next (λ w. h (sym (e ∙ f) ∙ w))) ∙ onward
+  pub ended : is_ended t.state ≡ true → next ≡ course_from g text now limit start
+  ended e = sym (ended_stays g text now (limit - (k + 1)) next (λ went. not_ended t.state e (sym (state_behind t.want new.walk served t.state) ∙ went))) ∙ onward
 
-  pub goes : k + 1 < 2 ^ 64 → t.state ≡ Went → (new_served : Served) → new_served ≡ served_behind t.want new.walk served t.state → new_served.state ≡ t.state → (new_lent : Option ℕ) → new_lent ≡ lent_behind t.want lent →
+  -- behind one that does
+  pub goes : k + 1 < 2 ^ 64 → is_ended t.state ≡ false → {new_served : Served} → new_served ≡ served_behind t.want new.walk served t.state → {new_lent : Option ℕ} → new_lent ≡ lent_behind t.want lent →
       All (IsOfGeometry g) after → Underway g text now limit start (k + 1) new after new_lent later new_served
-  goes small went new_served s same new_lent l all = record {
+  goes small e {new_served} s {new_lent} l all = let went : t.state ≡ Went = still_goes t.state e in record {
     rest = ap (λ (x : Served). course_from g text now (limit - (k + 1)) (course_at new after new_lent later x)) s
         ∙ ap (λ (x : Option ℕ). course_from g text now (limit - (k + 1)) (course_at new after x later (served_behind t.want new.walk served t.state))) l
         ∙ onward;
-    going = same ∙ went;
+    going = ap (λ (x : Served). x.state) s ∙ state_behind t.want new.walk served t.state ∙ went;
     running = st.running ∙ ap is_running went;
     space = st.space ∙ u.space;
     sealed = st.sealed ∙ u.sealed;
@@ -178,22 +200,10 @@ module _ (g : Geometry) (text : List ℕ) (now limit : ℕ) (start : Course) (k 
     within = subst (λ (s : State). StepsAfter new (script_counts start.core) (script_counts later) s) went (st.within (script_counts start.core) u.within);
   }
 
-pub not_ended : (state : State) → is_ended state ≡ true → state ≡ Went → ⊥
-not_ended state e f = let z : false ≡ true = ap is_ended (sym f) ∙ e in cc
-
-pub still_goes : (state : State) → is_ended state ≡ false → state ≡ Went
-still_goes Went e = refl
-still_goes Finished e = let z : ⊥ = cc in absurd z
-still_goes Refused e = let z : ⊥ = cc in absurd z
-still_goes (Aborted abort) e = let z : ⊥ = cc in absurd z
-
--- how it turned out is told
-pub state_behind : (want : Want) (w : Walk) (s : Served) (state : State) → (served_behind want w s state).state ≡ state
-state_behind want w s state = by want
-  where
-    by : (want : Want) → (served_behind want w s state).state ≡ state
-    by Nothing = refl
-    by (Take b) = refl
-    by Enter = refl
-    by Give = refl
-    by Send = refl
+  -- a step that wants nothing and goes on leaves what became of the call as it was
+  pub goes_quietly : k + 1 < 2 ^ 64 → t.want ≡ Nothing → t.state ≡ Went → All (IsOfGeometry g) after → Underway g text now limit start (k + 1) new after lent later served
+  goes_quietly small want went all =
+      let as_it_was : served_behind Nothing new.walk served Went ≡ served = ap (λ (s : State). let x : Served = record { entered = served.entered; message = served.message; state = s } in x) (sym u.going) in
+      goes small (ap is_ended went)
+      (sym (ap (λ (w : Want). served_behind w new.walk served t.state) want ∙ ap (λ (s : State). served_behind Nothing new.walk served s) went ∙ as_it_was))
+      (sym (ap (λ (w : Want). lent_behind w lent) want)) all

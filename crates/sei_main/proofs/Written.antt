@@ -4,7 +4,7 @@ use Rattle.std.specs.Io.KnownBytes.{append_known}
 use Rattle.std.proofs.lemmas.List.{append_assoc, append-nil}
 use Rattle.std.proofs.lemmas.List.Concat.{flat_map-append}
 use Rattle.sei_outside.specs.Bytes.{WrotePart}
-use Rattle.sei_outside.proofs.Parts.{append_known_none, wrote_both, wrote_part_of}
+use Rattle.sei_outside.proofs.Public.{append_known_none, wrote_both, wrote_part_of}
 use Rattle.sei_main.specs.Events.{Event}
 use Rattle.sei_main.specs.Report.{events_text, text_of}
 

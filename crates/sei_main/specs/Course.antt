@@ -17,10 +17,10 @@ use Rattle.sei_traverse.specs.declared.walk.Walk.{Walk}
 use Rattle.sei_pass.specs.Spaces.{pass_space}
 use Rattle.sei_traverse.specs.Bounds.{most_steps}
 use Rattle.sei_traverse.specs.Phases.{reply_of}
-use Rattle.sei_traverse.specs.Service.{given_of}
+use Rattle.sei_traverse.specs.Given.{given_of}
 use Rattle.sei_traverse.specs.State.{begun_walk}
 use Rattle.sei_traverse.specs.Step.{Turn, turn_tree}
-use Rattle.sei_main.specs.Errands.{service_for}
+use Rattle.sei_hand.specs.HandsBehavior.{hands_behavior}
 use Rattle.sei_main.specs.declared.world.service.Entered.{Entered}
 use Rattle.sei_main.specs.declared.world.service.Served.{Served}
 
@@ -70,7 +70,7 @@ unserved = record { entered = None; message = []; state = Went }
 module _ (g : Geometry) (text : List ℕ) (now : ℕ) where
   -- one step of the traversal, on what is lent, and the core behind it
   abbrev pub turned : Walk → Option BucketWords → ScriptState → Turn × ScriptState
-  turned w loan core = scripted script_answer script_next (turn_tree (given_of (service_for g) text (pass_space g) (bucket_of loan)) now now w (words_of loan)) core
+  turned w loan core = scripted script_answer script_next (turn_tree (given_of (hands_behavior g) text (pass_space g) (bucket_of loan)) now now w (words_of loan)) core
 
   -- the words are put back, and what the step wants is done
   abbrev pub met : Course → Turn × ScriptState → Course

@@ -11,6 +11,7 @@ pub mod Serving
 pub mod Tables
 pub mod Errands
 pub mod Course
+pub mod SoFar
 pub mod Turning
 pub mod TableAnswers
 pub mod Asked

@@ -9,12 +9,12 @@ use Rattle.sei_traverse.specs.declared.turned.Turned.{Turned}
 use Rattle.sei_traverse.specs.Bounds.{StepsWithin, StepsAfter}
 use Rattle.sei_traverse.specs.Running.{on, Makes}
 use Rattle.sei_traverse.specs.State.{TraversalState, IsTraversal, one_more, is_running}
-use Rattle.sei_main.specs.Errands.{service_for}
+use Rattle.sei_hand.specs.HandsBehavior.{hands_behavior}
 use Rattle.sei_main.specs.Course.{loan_in, put_back, turned}
 
 -- a step on what is lent is that of the definition, under the functions of a core with a plan
 pub record IsStep (g : Geometry) (text : List ℕ) (now : ℕ) (before after : Option BucketWords) (old new : TraversalState) (core later : ScriptState) (t : Turned) : Type 0 where
-  pub makes : Makes (function_core script_answer script_next) script_counts (Some now) (service_for g) text (on old before core) (on new after later) t
+  pub makes : Makes (function_core script_answer script_next) script_counts (Some now) (hands_behavior g) text (on old before core) (on new after later) t
   pub within : (begin : Counts) → StepsWithin old begin (script_counts core) → StepsAfter new begin (script_counts later) t.state
 
 -- and so is one on the buckets

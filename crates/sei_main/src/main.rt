@@ -1,6 +1,7 @@
 //! Replays a script of connections from standard input, and writes what happens to standard output.
 #![tactic(auto)]
 
+mod command_line;
 mod isolation;
 mod plans;
 mod replay;
@@ -12,6 +13,7 @@ mod tables;
 mod tests;
 mod world;
 
+use command_line::{after_the_name, is_out_of_memory};
 use run::run;
 use sei_outside::{StdSink, StdSource};
 use status::Status;
@@ -21,31 +23,15 @@ use std::{env, io};
 
 /// The words of the command line behind the program's name.
 fn words_of(rt: &HostRuntime) -> io::Result<Vec<String>> {
-    let mut words = Vec::new(rt.alloc());
-    let mut first = true;
-    for word in env::args(rt)? {
-        if first {
-            first = false;
-        } else {
-            words.push(word)?;
-        }
-    }
-    Ok(words)
-}
-
-/// Whether an error is want of memory.
-fn is_want_of_memory(error: &io::Error) -> bool {
-    match error.kind() {
-        io::ErrorKind::OutOfMemory => true,
-        _ => false,
-    }
+    let all = env::args(rt)?.collect(rt.alloc())?;
+    Ok(after_the_name(all))
 }
 
 fn main(rt: HostRuntime) -> ExitCode {
     let words = match words_of(&rt) {
         Ok(words) => words,
         Err(error) => {
-            if is_want_of_memory(&error) {
+            if is_out_of_memory(&error) {
                 return ExitCode::from(Status::Memory.code());
             }
             // A word that is no text stands in no form, as no word at all.

@@ -1,4 +1,4 @@
-ghost use Rattle.std.specs.Prelude.{◌≡◌, ◌≢◌, ◌+◌, ◌≤◌, IfSome, IfOk, OnOk, true};
+ghost use Rattle.std.specs.Prelude.{◌≡◌, ◌≢◌, ◌+◌, ◌<◌, ◌≤◌, IfSome, IfOk, OnOk, true};
 ghost use Rattle.std.specs.Io.KnownBytes.{IsAtEnd, append_known};
 ghost use Rattle.sei_outside.specs.Faults.{Rose};
 ghost use Rattle.sei_outside.specs.Bytes.{WrotePart};
@@ -40,6 +40,7 @@ fn run_on<S: Service + Drop, K: Sink>(
     ensures all { OnOk result (K.written sink.new ≡ append_known (K.written sink.old) (report_of reporter.history (run_by (step_by S.answering) server script.now))) }
     ensures part { WrotePart (K.written sink.old) (K.written sink.new) (report_of reporter.history (run_by (step_by S.answering) server script.now)) }
     ensures fault { result ≡ Err Stop.WriteFault → Rose (K.faults sink.old) (K.faults sink.new) }
+    ensures told { K.faults sink.old < K.faults sink.new → result ≡ Err Stop.WriteFault }
     ensures later { K.faults sink.old ≤ K.faults sink.new }
 {
     let plans = match Plans::of(reporter.alloc, script) {
@@ -64,6 +65,7 @@ fn run_script<K: Sink>(reporter: Reporter, script: &Script, sink: &mut K) -> Res
     ensures all { OnOk result (K.written sink.new ≡ append_known (K.written sink.old) (report_of reporter.history (run_of script.now))) }
     ensures part { WrotePart (K.written sink.old) (K.written sink.new) (report_of reporter.history (run_of script.now)) }
     ensures fault { result ≡ Err Stop.WriteFault → Rose (K.faults sink.old) (K.faults sink.new) }
+    ensures told { K.faults sink.old < K.faults sink.new → result ≡ Err Stop.WriteFault }
     ensures later { K.faults sink.old ≤ K.faults sink.new }
 {
     match TableServer::new(reporter.alloc, script.geometry()) {
@@ -78,6 +80,7 @@ fn refuse<K: Sink>(alloc: Global, sink: &mut K, line: u64, why: Why) -> Status
     ensures answer { Refused (K.written sink.old) (K.written sink.new) line why result }
     ensures read_fault { result ≢ Status.ReadFault }
     ensures write_fault { result ≡ Status.WriteFault → Rose (K.faults sink.old) (K.faults sink.new) }
+    ensures write_told { K.faults sink.old < K.faults sink.new → result ≡ Status.WriteFault }
     ensures later { K.faults sink.old ≤ K.faults sink.new }
 {
     match refusal_text(alloc, line, why) {
@@ -96,6 +99,7 @@ fn replay_text<K: Sink>(alloc: Global, text: Vec<u8>, sink: &mut K, history: boo
     ensures answer { StatusSays history (reading_in text.items) (K.written sink.old) (K.written sink.new) result }
     ensures read_fault { result ≢ Status.ReadFault }
     ensures write_fault { result ≡ Status.WriteFault → Rose (K.faults sink.old) (K.faults sink.new) }
+    ensures write_told { K.faults sink.old < K.faults sink.new → result ≡ Status.WriteFault }
     ensures later { K.faults sink.old ≤ K.faults sink.new }
 {
     let reading = read_script(alloc, text.as_slice());
@@ -125,7 +129,9 @@ fn replay_all<S: Source, K: Sink>(
     ensures aborted_at_end { result ≡ Status.Aborted → IsAtEnd (S.left source.new) }
     ensures taken { TookAtMost (script_limit + 1) (S.left source.old) (S.left source.new) }
     ensures read_fault { result ≡ Status.ReadFault → Rose (S.faults source.old) (S.faults source.new) }
+    ensures read_told { S.faults source.old < S.faults source.new → result ≡ Status.ReadFault }
     ensures write_fault { result ≡ Status.WriteFault → Rose (K.faults sink.old) (K.faults sink.new) }
+    ensures write_told { K.faults sink.old < K.faults sink.new → result ≡ Status.WriteFault }
     ensures read_later { S.faults source.old ≤ S.faults source.new }
     ensures write_later { K.faults sink.old ≤ K.faults sink.new }
 {
@@ -157,7 +163,9 @@ pub fn replay<S: Source, K: Sink>(
     ensures aborted_at_end { result ≡ Status.Aborted → IsAtEnd (S.left source.new) }
     ensures taken { TookAtMost (script_limit + 1) (S.left source.old) (S.left source.new) }
     ensures read_fault { result ≡ Status.ReadFault → Rose (S.faults source.old) (S.faults source.new) }
+    ensures read_told { S.faults source.old < S.faults source.new → result ≡ Status.ReadFault }
     ensures write_fault { result ≡ Status.WriteFault → Rose (K.faults sink.old) (K.faults sink.new) }
+    ensures write_told { K.faults sink.old < K.faults sink.new → result ≡ Status.WriteFault }
     ensures read_later { S.faults source.old ≤ S.faults source.new }
     ensures write_later { K.faults sink.old ≤ K.faults sink.new }
     // Where no fault comes, the script alone decides between Ok, Aborted and its first bad line, want of memory aside.

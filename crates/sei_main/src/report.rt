@@ -21,6 +21,7 @@ fn write_seat<K: Sink>(
     ensures all { OnOk result (K.written sink.new ≡ append_known (K.written sink.old) (seat_text c connection.now)) }
     ensures part { WrotePart (K.written sink.old) (K.written sink.new) (seat_text c connection.now) }
     ensures fault { result ≡ Err Stop.WriteFault → Rose (K.faults sink.old) (K.faults sink.new) }
+    ensures told { K.faults sink.old < K.faults sink.new → result ≡ Err Stop.WriteFault }
     ensures later { K.faults sink.old ≤ K.faults sink.new }
 {
     match took_text(alloc, c, connection.sent()) {
@@ -46,6 +47,7 @@ pub fn write_closing<K: Sink>(
     ensures all { OnOk result (K.written sink.new ≡ append_known (K.written sink.old) (seats_text 0 connections.now ++ end_text aborted)) }
     ensures part { WrotePart (K.written sink.old) (K.written sink.new) (seats_text 0 connections.now ++ end_text aborted) }
     ensures fault { result ≡ Err Stop.WriteFault → Rose (K.faults sink.old) (K.faults sink.new) }
+    ensures told { K.faults sink.old < K.faults sink.new → result ≡ Err Stop.WriteFault }
     ensures later { K.faults sink.old ≤ K.faults sink.new }
 {
     for (i, connection) in connections.iter().enumerate() {

@@ -6,18 +6,19 @@ ghost use Rattle.mc_model.specs.Server.{IsValid};
 ghost use Rattle.sei_words.specs.Words.{fresh_words};
 ghost use Rattle.sei_stmt.specs.Handling.{parsed_words};
 ghost use Rattle.sei_pass.specs.Setting.{sealed_call};
-ghost use Rattle.sei_pass.specs.Spaces.{input_room, pass_space};
+ghost use Rattle.sei_pass.specs.Spaces.{input_room, bytes_room, pass_space};
 ghost use Rattle.sei_hand.specs.Requests.{parsed_call};
 ghost use Rattle.sei_traverse.specs.Bounds.{most_steps};
 ghost use Rattle.sei_main.specs.State.{limits_of};
 ghost use Rattle.sei_main.specs.Tables.{fresh_tables, IsOfGeometry};
 ghost use Rattle.sei_main.specs.TableAnswers.{table_answering, sealed_for};
-ghost use Rattle.sei_main.specs.Course.{lent_behind, served_behind, is_ended, course_of};
+ghost use Rattle.sei_main.specs.Course.{lent_behind, served_behind, is_ended, unserved, course_of};
+ghost use Rattle.sei_main.specs.SoFar.{served_in, HasRoom};
 ghost use Rattle.sei_main.specs.Turning.{IsStep, IsTurn};
 
 use crate::world::{Entered, Numbers, Served, Service};
 use mc_model::{CallSpan, Geometry};
-use sei_code::{Coded, Memory, Mode, message_code};
+use sei_code::{Buffer, Coded, Memory, Mode, message_code};
 use sei_fault::{Planned, ScriptCore};
 use sei_hand::{Hands, HandsError};
 use sei_outside::SetClock;
@@ -115,36 +116,78 @@ fn turn(
     }
 }
 
-/// A copy of bytes.
-fn copy(alloc: Global, bytes: &[u8]) -> Result<Text, Memory>
-    ensures { IfOk result (λ text. text ≡ bytes.now) }
-{
-    Ok(Text::new(Vec::from_slice(alloc, bytes)?))
+/// What became of a call so far. Its buffers are made before its traversal begins, so that nothing is
+/// allocated while that goes on.
+#[derive(Drop)]
+struct SoFar {
+    /// The time of its entry, once it was entered.
+    entered: Option<u64>,
+    /// The reply in its entry.
+    reply: Buffer,
+    /// The message that was sent; an empty one before that.
+    message: Buffer,
+    /// How the last step turned out.
+    state: State,
 }
 
-/// Does what the last step wanted of the journal and of the connection: the call is entered, at the
-/// noted time, with the reply; the copy for the wire is sent.
-#[inline(always)]
-fn serve(
-    alloc: Global,
-    traversal: &Traversal,
-    turned: Turned,
-    served: &mut Served,
-) -> Result<(), Memory>
-    ensures { OnOk result (served.new ≡ served_behind turned.want traversal.now.walk served.old turned.state) }
-{
-    match turned.want {
-        Want::Enter => {
-            served.entered = Some(Entered {
-                now: traversal.now().unwrap_or(0),
-                reply: copy(alloc, traversal.reply())?,
-            });
-        }
-        Want::Send => served.message = copy(alloc, traversal.wire())?,
-        Want::Nothing | Want::Take { .. } | Want::Give => {}
+impl SoFar {
+    /// Of a call that begins, with so many bytes of room for its reply.
+    fn new(alloc: Global, room: usize) -> Result<SoFar, Memory>
+        ensures served { IfOk result (λ so_far. served_in so_far ≡ unserved) }
+        ensures room { IfOk result (HasRoom room) }
+    {
+        Ok(SoFar {
+            entered: None,
+            reply: Buffer::new(alloc, room)?,
+            message: Buffer::new(alloc, room)?,
+            state: State::Went,
+        })
     }
-    served.state = turned.state;
-    Ok(())
+
+    /// Does what the last step wanted of the journal and of the connection: the call is entered, at
+    /// the noted time, with the reply; the copy for the wire is sent.
+    #[inline(always)]
+    fn meet(&mut self, traversal: &Traversal, turned: Turned)
+        requires { HasRoom traversal.now.space.bytes self.old }
+        ensures served { served_in self.new ≡ served_behind turned.want traversal.now.walk (served_in self.old) turned.state }
+        ensures room { HasRoom traversal.now.space.bytes self.new }
+    {
+        match turned.want {
+            Want::Enter => {
+                self.entered = Some(traversal.now().unwrap_or(0));
+                self.reply.clear();
+                self.reply.extend_from_slice(traversal.reply());
+            }
+            Want::Send => {
+                self.message.clear();
+                self.message.extend_from_slice(traversal.wire());
+            }
+            Want::Nothing | Want::Take { .. } | Want::Give => {}
+        }
+        self.state = turned.state;
+    }
+
+    /// What became of the call, once its traversal came to an end.
+    fn finish(self) -> Served
+        ensures { result ≡ served_in self }
+    {
+        let message = Text::new(self.message.into_vec());
+        match self.entered {
+            None => Served {
+                entered: None,
+                message,
+                state: self.state,
+            },
+            Some(now) => Served {
+                entered: Some(Entered {
+                    now,
+                    reply: Text::new(self.reply.into_vec()),
+                }),
+                message,
+                state: self.state,
+            },
+        }
+    }
 }
 
 /// Whether a traversal came to an end of whichever kind.
@@ -157,10 +200,23 @@ fn is_ended(state: State) -> bool
     }
 }
 
+/// Whether a step wanted nothing and the traversal goes on, as most do.
+#[inline(always)]
+fn is_quiet(turned: &Turned) -> bool
+    ensures { result ≡ true → (turned.now.want ≡ Want.Nothing) × (turned.now.state ≡ State.Went) }
+{
+    match turned.want {
+        Want::Nothing => match turned.state {
+            State::Went => true,
+            State::Finished | State::Refused | State::Aborted(_) => false,
+        },
+        Want::Take { .. } | Want::Enter | Want::Give | Want::Send => false,
+    }
+}
+
 /// Leads a traversal from its begin to its end, for the sealed call, with the fault that is planned for
-/// it. The error is want of memory.
+/// it.
 fn traverse(
-    alloc: Global,
     traversal: &mut Traversal,
     hands: &Hands,
     buckets: &mut Vec<Words>,
@@ -168,32 +224,33 @@ fn traverse(
     now: u64,
     text: &[u8],
     sealed: Sealed,
+    mut so_far: SoFar,
     limit: u64,
-) -> Result<Served, Memory>
+) -> Served
     requires space { traversal.old.space ≡ pass_space hands.now }
     requires laid_out { All (IsOfGeometry hands.now) buckets.old.items }
     requires room { length (parsed_words (sealed_call (parsed_call hands.now text.now) sealed.nth)) ≤ input_room hands.now }
+    requires begins { served_in so_far ≡ unserved }
+    requires reply_room { HasRoom (bytes_room hands.now) so_far }
     requires limit { limit ≡ most_steps (pass_space hands.now) + 1 }
-    ensures buckets { OnOk result (buckets.new.items ≡ (course_of hands.now text.now now buckets.old.items sealed plan).buckets) }
-    ensures served { IfOk result (λ served. served ≡ (course_of hands.now text.now now buckets.old.items sealed plan).served) }
+    ensures buckets { buckets.new.items ≡ (course_of hands.now text.now now buckets.old.items sealed plan).buckets }
+    ensures served { result ≡ (course_of hands.now text.now now buckets.old.items sealed plan).served }
     ensures laid_out { All (IsOfGeometry hands.now) buckets.new.items }
     ensures space { traversal.new.space ≡ pass_space hands.now }
 {
     let clock = SetClock { at: now };
     let mut core = ScriptCore::new(plan);
     let mut lent = None;
-    let mut served = Served {
-        entered: None,
-        message: Text::new(Vec::new(alloc)),
-        state: State::Went,
-    };
     traversal.begin(sealed, Mode::Plain);
     for _ in 0..limit {
         let turned = turn(traversal, hands, text, buckets, lent, &mut core, &clock);
+        if is_quiet(&turned) {
+            continue;
+        }
         lent = lent_behind(turned.want, lent);
-        serve(alloc, traversal, turned, &mut served)?;
+        so_far.meet(traversal, turned);
         if is_ended(turned.state) {
-            return Ok(served);
+            return so_far.finish();
         }
     }
     unreachable!()
@@ -269,8 +326,8 @@ impl Service for TableServer {
     ) -> Result<Served, Memory> {
         let sealed = sealed_for(text, nth, numbers);
         let limit = most_steps(&self.geometry) + 1;
-        traverse(
-            self.alloc,
+        let so_far = SoFar::new(self.alloc, self.traversal.reply_room() as usize)?;
+        Ok(traverse(
             &mut self.traversal,
             &self.hands,
             &mut self.buckets,
@@ -278,7 +335,8 @@ impl Service for TableServer {
             now,
             text,
             sealed,
+            so_far,
             limit,
-        )
+        ))
     }
 }

@@ -1,5 +1,5 @@
 -- What a source and a sink over a reader and a writer of std hand on.
-use Rattle.std.specs.Prelude.{ℕ, List, take, ⊤}
+use Rattle.std.specs.Prelude.{◌≡◌, ℕ, List, ◌++◌, take}
 use Rattle.std.specs.Io.KnownBytes.{Keeps, Appends, Consumes, IsAtEnd}
 use Rattle.std.specs.declared.option.Option.{Option}
 use Rattle.sei_outside.specs.declared.source.Read.{Read}
@@ -27,7 +27,14 @@ HandsOn old new into (Took n) = Consumes old new (take n into)
 HandsOn old new into End = IsAtEnd old
 HandsOn old new into Failed = Keeps old new
 
--- a write that answers `All` hands the bytes to the writer, where the writer knows its bytes
+-- the writer took a first part of the bytes, each once, where it knows its bytes
+pub record HandedPart (old new : Option (List ℕ)) (bytes : List ℕ) : Type 0 where
+  pub part : List ℕ
+  pub rest : List ℕ
+  pub split : part ++ rest ≡ bytes
+  pub now : Appends old new part
+
+-- a write that answers `All` hands all the bytes to the writer, and one that fails a first part of them, where the writer knows its bytes
 abbrev pub HandsTo : Option (List ℕ) → Option (List ℕ) → List ℕ → Wrote → Type 0
 HandsTo old new bytes wrote.All = Appends old new bytes
-HandsTo old new bytes wrote.Failed = ⊤
+HandsTo old new bytes wrote.Failed = HandedPart old new bytes

@@ -1,8 +1,10 @@
 //! What time it is: a clock that is set by hand, and the system's.
 ghost use Rattle.std.specs.Prelude.{◌≡◌, ℕ, IfSome, Some, None};
 ghost use Rattle.std.specs.declared.option.Option.{Option};
+ghost use Rattle.sei_outside.specs.Seconds.{seconds_of};
 
-use std::time;
+use std::time::Duration;
+use std::{io, time};
 
 /// Tells the time. A clock has no fault: each answer is an answer, and it may go back.
 pub trait Clock {
@@ -44,14 +46,21 @@ impl<C> HostClock<C> {
     }
 }
 
+/// The whole seconds that a clock of std answered, or 0 for its error.
+fn seconds(answer: io::Result<Duration>) -> u64
+    ensures { result ≡ seconds_of answer }
+{
+    match answer {
+        Ok(since) => since.as_secs(),
+        Err(_) => 0,
+    }
+}
+
 impl<C: time::Clock> Clock for HostClock<C> {
     ghost told = { λ _. None };
 
-    /// 0 where the system's clock can't be read, or stands before 1970.
+    /// 0 if the system's clock can't be read, or stands before 1970.
     fn now(&self) -> u64 {
-        match self.inner.since_1970() {
-            Ok(since) => since.as_secs(),
-            Err(_) => 0,
-        }
+        seconds(self.inner.since_1970())
     }
 }

@@ -1,6 +1,6 @@
 //! A source and a sink in memory, whose faults are planned. The planned calls fail, and a call
 //! that fails gives, takes and appends nothing.
-ghost use Rattle.std.specs.Prelude.{◌≡◌, ◌<◌, ◌≤◌, ◌++◌, IfOk, Some, [], drop, length, take, if◌then◌else◌};
+ghost use Rattle.std.specs.Prelude.{◌≡◌, ◌≢◌, ◌<◌, ◌≤◌, ◌++◌, IfOk, Some, [], drop, length, take, if◌then◌else◌};
 ghost use Rattle.sei_outside.specs.Faults.{Rose};
 ghost use Rattle.sei_outside.specs.Reads.{ReadGives, taken};
 ghost use Rattle.sei_outside.specs.Writes.{WriteGives};
@@ -69,6 +69,7 @@ impl Source for MemorySource {
         ensures bytes { ReadGives (Some self.old.left) (Some self.new.left) into.new result }
         ensures later { self.old.calls.faults ≤ self.new.calls.faults }
         ensures cause { result ≡ Read.Failed → Rose self.old.calls.faults self.new.calls.faults }
+        ensures quiet { result ≢ Read.Failed → self.new.calls.faults ≡ self.old.calls.faults }
     {
         let fails = self.calls.is_due();
         self.calls.count(fails);
@@ -154,6 +155,7 @@ impl Sink for MemorySink {
             bytes.now result }
         ensures later { self.old.calls.faults ≤ self.new.calls.faults }
         ensures cause { result ≡ Wrote.Failed → Rose self.old.calls.faults self.new.calls.faults }
+        ensures quiet { result ≡ Wrote.All → self.new.calls.faults ≡ self.old.calls.faults }
     {
         let fits = bytes.len() <= self.room - self.bytes.len();
         let fails = self.calls.is_due() || !fits;

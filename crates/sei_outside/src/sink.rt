@@ -26,5 +26,6 @@ pub trait Sink {
     fn write(&mut self, bytes: &[u8]) -> Wrote
         ensures bytes { WriteGives (written self.old) (written self.new) bytes.now result }
         ensures later { faults self.old ≤ faults self.new }
-        ensures cause { result ≡ Wrote.Failed → Rose (faults self.old) (faults self.new) };
+        ensures cause { result ≡ Wrote.Failed → Rose (faults self.old) (faults self.new) }
+        ensures quiet { result ≡ Wrote.All → faults self.new ≡ faults self.old };
 }

@@ -1,5 +1,5 @@
 //! Where bytes come from.
-ghost use Rattle.std.specs.Prelude.{◌≡◌, ℕ, ◌<◌, ◌≤◌, List, length};
+ghost use Rattle.std.specs.Prelude.{◌≡◌, ◌≢◌, ℕ, ◌<◌, ◌≤◌, List, length};
 ghost use Rattle.std.specs.declared.option.Option.{Option};
 ghost use Rattle.sei_outside.specs.Faults.{Rose};
 ghost use Rattle.sei_outside.specs.Reads.{ReadGives};
@@ -29,5 +29,6 @@ pub trait Source {
         requires { 0 < length into.old }
         ensures bytes { ReadGives (left self.old) (left self.new) into.new result }
         ensures later { faults self.old ≤ faults self.new }
-        ensures cause { result ≡ Read.Failed → Rose (faults self.old) (faults self.new) };
+        ensures cause { result ≡ Read.Failed → Rose (faults self.old) (faults self.new) }
+        ensures quiet { result ≢ Read.Failed → faults self.new ≡ faults self.old };
 }

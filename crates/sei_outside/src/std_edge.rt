@@ -1,8 +1,8 @@
 //! The edge to std: a source over a reader and a sink over a writer. They tell nothing of content.
-ghost use Rattle.std.specs.Prelude.{◌≡◌, ◌<◌, ◌≤◌, None, OnOk, length};
-ghost use Rattle.std.specs.Io.KnownBytes.{Appends};
+ghost use Rattle.std.specs.Prelude.{◌≡◌, ◌≢◌, ◌<◌, ◌≤◌, None, length};
 ghost use Rattle.sei_outside.specs.Faults.{Rose};
 ghost use Rattle.sei_outside.specs.Reads.{ReadGives, faults_after_read};
+ghost use Rattle.sei_outside.specs.StdEdge.{HandsTo};
 ghost use Rattle.sei_outside.specs.Writes.{WriteGives, faults_after_write};
 
 use super::{Read, Sink, Source, Wrote};
@@ -45,6 +45,7 @@ impl<R: io::Read> Source for StdSource<R> {
         ensures later { read_faults self.old ≤ read_faults self.new }
         ensures cause { result ≡ Read.Failed
             → Rose (read_faults self.old) (read_faults self.new) }
+        ensures quiet { result ≢ Read.Failed → read_faults self.new ≡ read_faults self.old }
     {
         match self.inner.read(into) {
             Ok(0) => Read::End,
@@ -76,16 +77,46 @@ impl<W> StdSink<W> {
     }
 }
 
-/// Writes all the bytes and flushes the writer.
-fn write_through<W: io::Write>(writer: &mut W, bytes: &[u8]) -> io::Result<()>
-    ensures { OnOk result (Appends (W.contents writer.old) (W.contents writer.new) bytes.now) }
+/// How many interrupted writes one write tries again.
+const TRIES: u64 = u64::MAX;
+
+/// Hands on the bytes piece by piece, as many as the writer takes each time, up to its first error.
+/// An interrupted write took nothing, and is tried again.
+fn write_pieces<W: io::Write>(writer: &mut W, bytes: &[u8]) -> Wrote
+    ensures { HandsTo (W.contents writer.old) (W.contents writer.new) bytes.now result }
 {
-    writer.write_all(bytes)?;
-    writer.flush()
+    let mut at = 0;
+    let mut tries = TRIES;
+    while at < bytes.len() {
+        match writer.write(&bytes[at..]) {
+            Ok(0) => return Wrote::Failed,
+            Ok(count) => at += count,
+            Err(error) => {
+                if tries == 0 || error.kind() != io::ErrorKind::Interrupted {
+                    return Wrote::Failed;
+                }
+                tries -= 1;
+            }
+        }
+    }
+    Wrote::All
+}
+
+/// Writes all the bytes and flushes the writer.
+fn write_through<W: io::Write>(writer: &mut W, bytes: &[u8]) -> Wrote
+    ensures { HandsTo (W.contents writer.old) (W.contents writer.new) bytes.now result }
+{
+    if let Wrote::Failed = write_pieces(writer, bytes) {
+        return Wrote::Failed;
+    }
+    match writer.flush() {
+        Ok(()) => Wrote::All,
+        Err(_) => Wrote::Failed,
+    }
 }
 
 impl<W: io::Write> Sink for StdSink<W> {
-    ghost use Rattle.sei_outside.specs.StdEdge.{writer_of, write_faults, HandsTo};
+    ghost use Rattle.sei_outside.specs.StdEdge.{writer_of, write_faults};
 
     ghost written = { λ _. None };
 
@@ -101,13 +132,12 @@ impl<W: io::Write> Sink for StdSink<W> {
         ensures later { write_faults self.old ≤ write_faults self.new }
         ensures cause { result ≡ Wrote.Failed
             → Rose (write_faults self.old) (write_faults self.new) }
+        ensures quiet { result ≡ Wrote.All → write_faults self.new ≡ write_faults self.old }
     {
-        match write_through(&mut self.inner, bytes) {
-            Ok(()) => Wrote::All,
-            Err(_) => {
-                self.faults = self.faults.saturating_add(1);
-                Wrote::Failed
-            }
+        let wrote = write_through(&mut self.inner, bytes);
+        if let Wrote::Failed = wrote {
+            self.faults = self.faults.saturating_add(1);
         }
+        wrote
     }
 }

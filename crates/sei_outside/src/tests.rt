@@ -136,6 +136,51 @@ fn std_sink_hands_on(rt: HostRuntime) {
     assert_eq!(rt; writer.flushes, 2);
 }
 
+/// A writer that takes two bytes at most, and keeps them. Its first write is interrupted, and its
+/// second flush fails.
+#[derive(Drop)]
+struct TakesTwo {
+    kept: Vec<u8>,
+    writes: u8,
+    flushes: u8,
+}
+
+impl io::Write for TakesTwo {
+    fn write(&mut self, buf: &[u8]) -> io::Result<usize> {
+        self.writes = self.writes.saturating_add(1);
+        if self.writes == 1 {
+            return Err(io::ErrorKind::Interrupted.into());
+        }
+        let count = buf.len().min(2);
+        self.kept.extend_from_slice(&buf[..count])?;
+        Ok(count)
+    }
+
+    fn flush(&mut self) -> io::Result<()> {
+        self.flushes = self.flushes.saturating_add(1);
+        if self.flushes == 2 {
+            return Err(io::ErrorKind::BrokenPipe.into());
+        }
+        Ok(())
+    }
+}
+
+#[test]
+fn each_write_is_flushed(rt: HostRuntime) {
+    let mut writer = TakesTwo {
+        kept: Vec::new(rt.alloc()),
+        writes: 0,
+        flushes: 0,
+    };
+    let mut sink = StdSink::new(&mut writer);
+    assert_eq!(rt; put(&mut sink, b"abcde"), Wrote::All, "in three pieces");
+    assert_eq!(rt; put(&mut sink, b"fg"), Wrote::Failed, "not flushed");
+    assert_eq!(rt; put(&mut sink, b""), Wrote::All);
+    assert_eq!(rt; writer.kept.as_slice(), b"abcdefg".as_slice());
+    assert_eq!(rt; writer.writes, 5);
+    assert_eq!(rt; writer.flushes, 3);
+}
+
 fn asked<C: Clock>(clock: &C) -> u64 {
     clock.now()
 }

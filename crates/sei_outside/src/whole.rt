@@ -31,6 +31,7 @@ pub fn read_all<S: Source>(alloc: Global, source: &mut S, limit: usize) -> Resul
         → IfSome (S.left source.old) (λ all. limit < length all) }
     ensures taken { TookAtMost (limit + 1) (S.left source.old) (S.left source.new) }
     ensures failed { result ≡ Err Unread.Failed → Rose (S.faults source.old) (S.faults source.new) }
+    ensures told { S.faults source.old < S.faults source.new → result ≡ Err Unread.Failed }
     ensures later { S.faults source.old ≤ S.faults source.new }
 {
     let mut bytes = Vec::new(alloc);

@@ -5,3 +5,4 @@ pub mod RoomLaws
 pub mod StepLaws
 pub mod LoopLaws
 pub mod LoopRooms
+pub mod Public

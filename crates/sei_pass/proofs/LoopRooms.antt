@@ -10,7 +10,7 @@ use Rattle.sei_fault.specs.declared.place.Phase.{Phase}
 use Rattle.sei_fault.specs.declared.place.Times.{Times}
 use Rattle.sei_fault.specs.declared.place.Times.TheVariants.{Once, Skip, Twice}
 use Rattle.sei_fault.proofs.PublicChains.{chain_keeps}
-use Rattle.sei_fault.proofs.Runs.{always}
+use Rattle.sei_fault.proofs.Public.{always}
 use Rattle.sei_log.specs.declared.log.Change.{Change}
 use Rattle.sei_log.specs.declared.notes.Notes.{Notes}
 use Rattle.sei_stmt.specs.declared.stmt.Stmt.{Stmt}
@@ -24,7 +24,8 @@ use Rattle.sei_pass.specs.declared.loops.Exit.{Exit}
 use Rattle.sei_pass.specs.declared.loops.Exit.TheVariants as exit
 use Rattle.sei_pass.specs.Acts.{act_of}
 use Rattle.sei_pass.specs.Arms.{Arm, is_looped, asked_of, arm_of, arm_as, arm_at, arm_tree}
-use Rattle.sei_pass.specs.Loop.{Here, Asks, Leads, Leaves, RunsLoop}
+use Rattle.sei_pass.specs.Loop.{Here, Asks, Leads, Leaves, Led, LeadsOrLeaves, RunsLoop}
+use Rattle.sei_pass.specs.Loop.Led.{On, Out}
 use Rattle.sei_pass.specs.Setting.{bare}
 use Rattle.sei_pass.specs.State.{PassState, IsPass}
 use Rattle.sei_pass.specs.Steps.{machine_of}
@@ -129,6 +130,11 @@ leaves_stay gives g phase m x exit.Halted y core a s = one_more g m x.machine y 
 leaves_stay gives g phase m x (exit.Bad cause) y core a s = one_more g m x.machine y s a.room (asks_keep gives g phase x (asked.Bad cause) y core a)
 leaves_stay gives g phase m x (exit.Struck act times) y core a s = same g m x.machine y s (asks_keep gives g phase x (asked.Struck act times) y core a)
 leaves_stay gives g phase m x exit.Alone y core (e, f) s = same g m x.machine y s e
+
+-- where one step led
+pub led_stays : {S : Type 0} (gives : S → (q : Question) → Answer q → S → Type 0) (g : Setting) (phase : Phase) (x : Here S) (led : Led) (y : Machine) (core : S) → LeadsOrLeaves gives g phase x led y core → Stays g x.machine y
+led_stays gives g phase x (On index) y core l = leads_stay gives g phase x.machine x (record { machine = y; index = index; core = core }) l (stays g x.machine)
+led_stays gives g phase x (Out e) y core l = leaves_stay gives g phase x.machine x e y core l (stays g x.machine)
 
 pub loop_stays : {S : Type 0} (gives : S → (q : Question) → Answer q → S → Type 0) (g : Setting) (phase : Phase) (before index : ℕ) (x : Here S) (e : Exit) (y : Machine) (core : S) →
     RunsLoop gives g phase before index x e y core → Stays g x.machine y

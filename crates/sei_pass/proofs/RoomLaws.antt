@@ -4,7 +4,7 @@ use Rattle.std.proofs.lemmas.Bool.{ltb-true}
 use Rattle.std.proofs.lemmas.List.{length-set}
 use Rattle.sei_code.specs.Kept.{Kept, has_room}
 use Rattle.sei_fault.specs.Tree.{Always}
-use Rattle.sei_fault.proofs.Runs.{always_map}
+use Rattle.sei_fault.proofs.Public.{always_map}
 use Rattle.sei_stmt.specs.declared.stmt.Stmt.{Stmt}
 use Rattle.sei_stmt.specs.Handling.{parsed_words}
 use Rattle.sei_stmt.specs.Machine.{Machine, Setting, After}

@@ -6,14 +6,14 @@ use Rattle.sei_fault.specs.Counts.{Counts, Answered}
 use Rattle.sei_fault.specs.declared.cause.AbortCause.TheVariants.{Table, Budget}
 use Rattle.sei_fault.specs.Question.{Question, Answer, honestly_to}
 use Rattle.sei_fault.specs.Tree.{Runs}
-use Rattle.sei_fault.proofs.Runs.{counted_runs}
+use Rattle.sei_fault.proofs.Public.{counted_runs}
 use Rattle.sei_stmt.specs.declared.stmt.Stmt.{Stmt}
 use Rattle.sei_stmt.specs.declared.stmt.Stmt.TheVariants.{Now}
-use Rattle.sei_stmt.specs.Handling.{Parsed}
+use Rattle.sei_stmt.specs.Handling.{Behavior}
 use Rattle.sei_stmt.specs.Machine.{Machine, Setting, Outcome, After, one_made}
 use Rattle.sei_stmt.specs.Machine.Outcome.{Bad}
 use Rattle.sei_stmt.specs.Statements.{statement_tree, count_if, found_tree, step_tree}
-use Rattle.sei_stmt.proofs.HonestLaws.{on_way}
+use Rattle.sei_stmt.proofs.Public.{on_way}
 use Rattle.sei_pass.specs.declared.given.Sealed.{Sealed}
 use Rattle.sei_pass.specs.declared.given.Which.{Which}
 use Rattle.sei_pass.specs.declared.given.Which.TheVariants.{Making}
@@ -62,13 +62,12 @@ made_one gives g i m s t st x e b r =
     (subst (λ c. Runs gives (count_if c g i m st) s t x) (sym b) r)
 
 -- a statement that does not ask the clock does the same whatever it would answer
-pub any_time : {S : Type 0} (gives : S → (q : Question) → Answer q → S → Type 0) (which : Which) (statements : List Stmt)
-    (parsed : List ℕ → ℕ → Option Parsed) (rendered : List ℕ → Option (List ℕ)) (input : List ℕ) (sealed : Sealed) (lent : Option ℕ) (space : PassSpace)
+pub any_time : {S : Type 0} (gives : S → (q : Question) → Answer q → S → Type 0) (which : Which) (h : Behavior) (input : List ℕ) (sealed : Sealed) (lent : Option ℕ) (space : PassSpace)
     (st : Stmt) (told : Option ℕ) (time i : ℕ) (m : Machine) (s t : S) (x : After) → IsAsked which st told time →
-    Runs gives (statement_tree (setting_of which statements parsed rendered input sealed lent space time) i m st) s t x →
-    (now : ℕ) × IsAnswer told now × Runs gives (statement_tree (setting_of which statements parsed rendered input sealed lent space now) i m st) s t x
-any_time gives Making statements parsed rendered input sealed lent space (Now to) told time i m s t x a r = (time, a, r)
-any_time gives which statements parsed rendered input sealed lent space st told time i m s t x a r =
+    Runs gives (statement_tree (setting_of which h input sealed lent space time) i m st) s t x →
+    (now : ℕ) × IsAnswer told now × Runs gives (statement_tree (setting_of which h input sealed lent space now) i m st) s t x
+any_time gives Making h input sealed lent space (Now to) told time i m s t x a r = (time, a, r)
+any_time gives which h input sealed lent space st told time i m s t x a r =
     let n = some_answer told in (n.0, n.1, r)
 
 -- the test of the budget

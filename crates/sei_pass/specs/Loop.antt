@@ -1,5 +1,5 @@
 -- What a loop over the steps of a pass does: whole steps that lead on in the pass, and a part of one more.
-use Rattle.std.specs.Prelude.{◌≡◌, ℕ, ◌+◌, ◌<◌, ◌^◌, ⊤, Some, slice_get}
+use Rattle.std.specs.Prelude.{◌≡◌, ℕ, ◌+◌, ◌<◌, ◌^◌, ⊤, Option, Some, None, slice_get}
 use Rattle.sei_fault.specs.declared.place.Phase.{Phase}
 use Rattle.sei_fault.specs.declared.place.Place.{Place}
 use Rattle.sei_fault.specs.Chain.{Chain}
@@ -10,8 +10,6 @@ use Rattle.sei_stmt.specs.declared.stmt.Stmt.{Stmt}
 use Rattle.sei_stmt.specs.Machine.{Machine, Setting}
 use Rattle.sei_pass.specs.declared.loops.Asked.{Asked}
 use Rattle.sei_pass.specs.declared.loops.Asked.TheVariants as asked
-use Rattle.sei_pass.specs.declared.loops.Led.{Led}
-use Rattle.sei_pass.specs.declared.loops.Led.TheVariants.{On, Out}
 use Rattle.sei_pass.specs.declared.loops.Exit.{Exit}
 use Rattle.sei_pass.specs.declared.loops.Exit.TheVariants.{At, Halted, Bad, Struck, Alone}
 use Rattle.sei_pass.specs.Arms.{arm_tree}
@@ -47,10 +45,20 @@ Leaves gives g phase x (Bad cause) m core = Asks gives g phase x (asked.Bad caus
 Leaves gives g phase x (Struck act times) m core = Asks gives g phase x (asked.Struck act times) m core
 Leaves gives g phase x Alone m core = (m ≡ x.machine) × (core ≡ x.core)
 
+-- where a step of the loop led: on, to the statement with this index, or out of the loop
+pub data Led : Type 0 where
+  On : (index : ℕ) → Led
+  Out : (exit : Exit) → Led
+
+-- the same as the code has it: the index, or none and the exit
+abbrev pub led_to : Option ℕ → Exit → Led
+led_to (Some index) exit = Led.On index
+led_to None exit = Led.Out exit
+
 -- what was done of the step that begins here if it led there
 abbrev pub LeadsOrLeaves : {S : Type 0} → (S → (q : Question) → Answer q → S → Type 0) → Setting → Phase → Here S → Led → Machine → S → Type 0
-LeadsOrLeaves gives g phase x (On index) m core = Leads gives g phase x (record { machine = m; index = index; core = core })
-LeadsOrLeaves gives g phase x (Out exit) m core = Leaves gives g phase x exit m core
+LeadsOrLeaves gives g phase x (Led.On index) m core = Leads gives g phase x (record { machine = m; index = index; core = core })
+LeadsOrLeaves gives g phase x (Led.Out exit) m core = Leaves gives g phase x exit m core
 
 -- so many whole steps, and then a part of the one at this index
 pub record RunsLoop {S : Type 0} (gives : S → (q : Question) → Answer q → S → Type 0) (g : Setting) (phase : Phase) (before index : ℕ) (x : Here S) (exit : Exit) (m : Machine) (core : S) : Type 0 where
@@ -69,5 +77,5 @@ HasIndexAfter Alone index = ⊤
 
 -- P holds of the exit, if it led out of the loop
 abbrev pub IfOut : Led → (Exit → Type 0) → Type 0
-IfOut (On index) P = ⊤
-IfOut (Out exit) P = P exit
+IfOut (Led.On index) P = ⊤
+IfOut (Led.Out exit) P = P exit

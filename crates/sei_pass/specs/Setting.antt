@@ -6,7 +6,7 @@ use Rattle.sei_code.specs.declared.coded.Coded.{Coded}
 use Rattle.mc_model.specs.declared.geometry.Geometry.{Geometry}
 use Rattle.sei_words.specs.Free.{is_free}
 use Rattle.sei_stmt.specs.declared.stmt.Stmt.{Stmt}
-use Rattle.sei_stmt.specs.Handling.{Parsed}
+use Rattle.sei_stmt.specs.Handling.{Behavior, Parsed}
 use Rattle.sei_stmt.specs.Machine.{Setting}
 use Rattle.sei_pass.specs.declared.given.Sealed.{Sealed}
 use Rattle.sei_pass.specs.declared.given.Which.{Which}
@@ -68,16 +68,16 @@ calling intact parsed lent = record bare { intact = intact; parsed = parsed; len
 abbrev pub rendering : ℕ → (List ℕ → Option (List ℕ)) → Setting
 rendering answer rendered = record bare { answer = answer; rendered = rendered }
 
--- the setting of a step: the pass, the statements, calls and bytes of the hands, the input, what is
+-- the setting of a step: the pass, what the handler does, the input, what is
 -- sealed, the bucket that is lent, the space, and the clock's answer
-abbrev pub setting_of : Which → List Stmt → (List ℕ → ℕ → Option Parsed) → (List ℕ → Option (List ℕ)) → List ℕ → Sealed → Option ℕ → PassSpace → ℕ → Setting
-setting_of which statements parsed rendered input sealed lent space now = record {
+abbrev pub setting_of : Which → Behavior → List ℕ → Sealed → Option ℕ → PassSpace → ℕ → Setting
+setting_of which h input sealed lent space now = record {
   reading = is_reading which;
-  statements = statements;
+  statements = h.statements;
   intact = is_intact sealed input;
-  parsed = sealed_call (parsed input) sealed.nth;
+  parsed = sealed_call (h.parsed input) sealed.nth;
   answer = sealed.answer;
-  rendered = rendered;
+  rendered = h.rendered;
   lent = lent;
   slots = space.geometry.slots;
   is_free = free_of space.geometry lent;

@@ -187,7 +187,9 @@ impl Frame {
         requires index { index + 1 < 2 ^ 64 }
         requires made { self.old.made + 1 < 2 ^ 64 }
         ensures { (log : Kept Change) (notes : Notes) →
-            Runs K.gives (once_tree phase index (act_of self.old.registers (Stmt.Load to address)) (λ m. load_tree index m to address) (machine_at self.old (words_of (L.loan lent.now)) log notes)) core.old core.new
+            Runs K.gives
+            (once_tree phase index (act_of self.old.registers (Stmt.Load to address)) (λ m. load_tree index m to address)
+            (machine_at self.old (words_of (L.loan lent.now)) log notes)) core.old core.new
             (arm_after self.new (words_of (L.loan lent.now)) log notes result) }
     {
         let act = Act::Load(self.registers[address as usize]);
@@ -216,7 +218,9 @@ impl Frame {
         requires index { index + 1 < 2 ^ 64 }
         requires made { self.old.made + 1 < 2 ^ 64 }
         ensures tree { (notes : Notes) →
-            Runs K.gives (once_tree phase index (act_of self.old.registers (Stmt.Store address from)) (λ m. store_tree index m address from) (machine_at self.old (words_of (L.loan lent.old)) log.old notes)) core.old core.new
+            Runs K.gives
+            (once_tree phase index (act_of self.old.registers (Stmt.Store address from)) (λ m. store_tree index m address from)
+            (machine_at self.old (words_of (L.loan lent.old)) log.old notes)) core.old core.new
             (arm_after self.new (words_of (L.loan lent.new)) log.new notes result) }
         ensures lent { place_of (L.loan lent.new) ≡ place_of (L.loan lent.old) }
     {
@@ -327,7 +331,7 @@ impl Frame {
     /// Asks how often the statement is to be made, and counts and makes it if that is once. A rare
     /// one is not asked for: its step is to be made by itself.
     #[inline(always)]
-    pub fn ask<L: Lent, K: Core>(
+    pub fn ask<U, L: Lent, K: Core>(
         &mut self,
         statement: Stmt,
         phase: Phase,

@@ -20,7 +20,7 @@ mod tests;
 
 pub use frame::PassStep;
 pub use given::{Sealed, Which};
-pub use loops::{Exit, Ran};
+pub use loops::{Exit, FirstStep, Ran, SecondStep};
 pub use pass::Pass;
 pub use slots::Slots;
-pub use spaces::{PassSpace, budget, bytes_room, input_room, log_room, output_room};
+pub use spaces::PassSpace;

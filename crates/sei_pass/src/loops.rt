@@ -4,7 +4,7 @@ ghost use Rattle.sei_log.specs.declared.notes.Notes.{Notes};
 ghost use Rattle.sei_stmt.specs.Machine.{Setting};
 ghost use Rattle.sei_words.specs.Loan.{words_of, place_of};
 ghost use Rattle.sei_pass.specs.Frames.{machine_at};
-ghost use Rattle.sei_pass.specs.Loop.{LeadsOrLeaves, RunsLoop, HasIndexAfter, IfOut};
+ghost use Rattle.sei_pass.specs.Loop.{LeadsOrLeaves, RunsLoop, HasIndexAfter, IfOut, led_to};
 
 use crate::frame::Frame;
 use sei_fault::{AbortCause, Act, Core, Phase, Place, Times};
@@ -53,19 +53,21 @@ pub struct Ran {
     pub exit: Exit,
 }
 
-/// Where one step of the loop led.
-#[derive(Clone, Copy)]
-pub enum Led {
-    /// On, to the statement with this index.
-    On(u64),
-    /// Out of the loop.
-    Out(Exit),
-}
+/// The use of a step that is made in a loop over many.
+pub struct LoopStep;
+
+/// The use of a step of the first pass that is made by itself.
+pub struct FirstStep;
+
+/// The use of a step of the second pass that is made by itself.
+pub struct SecondStep;
 
 impl Frame {
-    /// Makes the step at `index`, as far as the loop makes it.
+    /// Makes the step at `index`, as far as the loop makes it. It returns the index of the statement
+    /// that it leads on to, or `None` and how it left the loop in `exit`. `U` is the use: each has a
+    /// copy of its own in the machine code, and what only one caller has is taken into it.
     #[inline(always)]
-    fn lead<L: Lent, K: Core>(
+    pub fn lead<U, L: Lent, K: Core>(
         &mut self,
         phase: Phase,
         table: &Table,
@@ -73,31 +75,46 @@ impl Frame {
         log: &mut WriteLog,
         core: &mut K,
         index: u64,
-    ) -> Led
+        exit: &mut Exit,
+    ) -> Option<u64>
         requires made { self.old.made + 1 < 2 ^ 64 }
         ensures led { (g : Setting) (notes : Notes) → g.statements ≡ table.now → self.old.made < g.budget →
             LeadsOrLeaves K.gives g phase
             (record { machine = machine_at self.old (words_of (L.loan lent.old)) log.old notes; index = index; core = core.old })
-            result (machine_at self.new (words_of (L.loan lent.new)) log.new notes) core.new }
-        ensures after { IfOut result (λ exit. HasIndexAfter exit index) }
+            (led_to result exit.new) (machine_at self.new (words_of (L.loan lent.new)) log.new notes) core.new }
+        ensures after { IfOut (led_to result exit.new) (λ exit. HasIndexAfter exit index) }
         ensures lent { place_of (L.loan lent.new) ≡ place_of (L.loan lent.old) }
     {
         let Some(statement) = table.get(index) else {
-            return Led::Out(Exit::Alone);
+            *exit = Exit::Alone;
+            return None;
         };
-        match self.ask(statement, phase, index, lent, log, core) {
+        match self.ask::<U, L, K>(statement, phase, index, lent, log, core) {
             Asked::Next(to) => {
                 let place = core.next(Place { phase, index: to });
                 if place.phase == phase {
-                    Led::On(place.index)
+                    Some(place.index)
                 } else {
-                    Led::Out(Exit::At(place))
+                    *exit = Exit::At(place);
+                    None
                 }
             }
-            Asked::Halted => Led::Out(Exit::Halted),
-            Asked::Bad(cause) => Led::Out(Exit::Bad(cause)),
-            Asked::Struck(act, times) => Led::Out(Exit::Struck(act, times)),
-            Asked::Alone => Led::Out(Exit::Alone),
+            Asked::Halted => {
+                *exit = Exit::Halted;
+                None
+            }
+            Asked::Bad(cause) => {
+                *exit = Exit::Bad(cause);
+                None
+            }
+            Asked::Struck(act, times) => {
+                *exit = Exit::Struck(act, times);
+                None
+            }
+            Asked::Alone => {
+                *exit = Exit::Alone;
+                None
+            }
         }
     }
 
@@ -124,10 +141,11 @@ impl Frame {
     {
         let first = self.made;
         let mut index = from;
+        let mut exit = Exit::Alone;
         for made in first..budget {
-            match self.lead(phase, table, lent, log, core, index) {
-                Led::On(to) => index = to,
-                Led::Out(exit) => {
+            match self.lead::<LoopStep, L, K>(phase, table, lent, log, core, index, &mut exit) {
+                Some(to) => index = to,
+                None => {
                     return Ran {
                         before: made - first,
                         index,

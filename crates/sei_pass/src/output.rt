@@ -17,9 +17,9 @@ use sei_stmt::Handler;
 /// Fills `into` with the input words of the sealed call, and answers the call's bucket; where there
 /// is no such call `into` is emptied.
 fn fill<H: Handler>(hands: &H, input: &[u8], nth: Coded, into: &mut WordList) -> Option<u64>
-    requires room { length (parsed_words (sealed_call (H.parsed hands.now input.now) nth)) ≤ into.old.room }
-    ensures bucket { result ≡ parsed_bucket (sealed_call (H.parsed hands.now input.now) nth) }
-    ensures filled { into.new ≡ refilled into.old (parsed_words (sealed_call (H.parsed hands.now input.now) nth)) }
+    requires room { length (parsed_words (sealed_call ((H.behavior hands.now).parsed input.now) nth)) ≤ into.old.room }
+    ensures bucket { result ≡ parsed_bucket (sealed_call ((H.behavior hands.now).parsed input.now) nth) }
+    ensures filled { into.new ≡ refilled into.old (parsed_words (sealed_call ((H.behavior hands.now).parsed input.now) nth)) }
 {
     match nth.read() {
         Some(n) => hands.parse(input, n, into),
@@ -88,9 +88,9 @@ impl Frame {
         index: u64,
         core: &mut K,
     ) -> PassStep
-        requires room { length (parsed_words (sealed_call (H.parsed hands.now input.now) sealed.now.nth)) ≤ self.old.input.room }
+        requires room { length (parsed_words (sealed_call ((H.behavior hands.now).parsed input.now) sealed.now.nth)) ≤ self.old.input.room }
         requires index { index + 1 < 2 ^ 64 }
-        ensures { Does K.gives (λ m. parse_tree (calling (is_intact sealed.now input.now) (sealed_call (H.parsed hands.now input.now) sealed.now.nth) lent) index m)
+        ensures { Does K.gives (λ m. parse_tree (calling (is_intact sealed.now input.now) (sealed_call ((H.behavior hands.now).parsed input.now) sealed.now.nth) lent) index m)
             self.old self.new result core.old core.new }
     {
         if core.test(message_code(sealed.number, input) == sealed.code) {
@@ -151,7 +151,7 @@ impl Frame {
     ) -> PassStep
         requires scratch { length self.old.output.items ≤ scratch.old.room }
         requires index { index + 1 < 2 ^ 64 }
-        ensures tree { Does K.gives (λ m. render_tree (rendering answer (H.rendered hands.now)) index m) self.old self.new result core.old core.new }
+        ensures tree { Does K.gives (λ m. render_tree (rendering answer (H.behavior hands.now).rendered) index m) self.old self.new result core.old core.new }
         ensures scratch { scratch.new.room ≡ scratch.old.room }
     {
         read_words(&self.output, scratch, core);

@@ -6,7 +6,7 @@ ghost use Rattle.sei_stmt.specs.Handling.{parsed_words};
 ghost use Rattle.sei_log.specs.declared.notes.Notes.{Notes};
 ghost use Rattle.sei_stmt.specs.Machine.{Setting};
 ghost use Rattle.sei_pass.specs.Acts.{act_of};
-ghost use Rattle.sei_pass.specs.Loop.{RunsLoop, HasIndexAfter};
+ghost use Rattle.sei_pass.specs.Loop.{LeadsOrLeaves, RunsLoop, HasIndexAfter, IfOut, led_to};
 ghost use Rattle.sei_pass.specs.Spaces.{pass_space};
 ghost use Rattle.sei_pass.specs.State.{IsPass, new_pass};
 ghost use Rattle.sei_words.specs.Loan.{words_of, bucket_of, place_of, IsOf};
@@ -17,7 +17,7 @@ ghost use Rattle.sei_pass.specs.Steps.{machine_of, Stepped};
 
 use crate::frame::{Frame, PassStep};
 use crate::given::{Sealed, Which};
-use crate::loops::Ran;
+use crate::loops::{Exit, Ran};
 use crate::slots::Slots;
 use crate::spaces::PassSpace;
 use mc_model::Geometry;
@@ -74,7 +74,7 @@ impl Pass {
         requires { IsValid g.now }
         ensures { IfOk result (λ pass. pass ≡ new_pass (pass_space g.now)) }
     {
-        let space = PassSpace::new(g);
+        let space = PassSpace::new(g, g.value_words);
         Ok(Pass {
             frame: Frame::new(alloc, &space)?,
             scratch: WordList::new(alloc, space.output as usize)?,
@@ -107,7 +107,7 @@ impl Pass {
     /// What the statement at `index` of the table does, or `None` where there is no such statement.
     #[inline(always)]
     pub fn act<H: Handler>(&self, hands: &H, index: u64) -> Option<Act>
-        ensures act { result ≡ option_map (act_of self.now.registers) (slice_get (H.statements hands.now) index) }
+        ensures act { result ≡ option_map (act_of self.now.registers) (slice_get (H.behavior hands.now).statements index) }
         ensures below { IfSome result (λ _. index < 2 ^ 63) }
     {
         match hands.table().get(index) {
@@ -136,11 +136,11 @@ impl Pass {
         index: u64,
     ) -> PassStep
         // The input words have room for what the hands make of the input.
-        requires room { length (parsed_words (sealed_call (H.parsed hands.now input.now) sealed.now.nth)) ≤ self.old.input.room }
+        requires room { length (parsed_words (sealed_call ((H.behavior hands.now).parsed input.now) sealed.now.nth)) ≤ self.old.input.room }
         // What is lent is of the pass's geometry.
         requires lent { IsOf self.old.space.geometry (lent_at lent) }
         ensures stepped { Stepped K.gives K.counts (C.told clock.now)
-            (setting_of which (H.statements hands.now) (H.parsed hands.now) (H.rendered hands.now) input.now sealed.now (bucket_of (lent_at lent.entry)) self.old.space)
+            (setting_of which (H.behavior hands.now) input.now sealed.now (bucket_of (lent_at lent.entry)) self.old.space)
             index (machine_of self.old (words_of (lent_at lent.entry)) log.old notes.old)
             (machine_of self.new (words_of (lent_left lent.exit)) log.new notes.new) (outcome_of result) core.old core.new }
         ensures lent { place_of (lent_left lent.exit) ≡ place_of (lent_at lent.entry) }
@@ -183,10 +183,10 @@ impl Pass {
         clock: &C,
         index: u64,
     ) -> PassStep
-        requires room { length (parsed_words (sealed_call (H.parsed hands.now input.now) sealed.now.nth)) ≤ self.old.input.room }
+        requires room { length (parsed_words (sealed_call ((H.behavior hands.now).parsed input.now) sealed.now.nth)) ≤ self.old.input.room }
         requires lent { IsOf self.old.space.geometry (L.loan lent.old) }
         ensures stepped { Stepped K.gives K.counts (C.told clock.now)
-            (setting_of which (H.statements hands.now) (H.parsed hands.now) (H.rendered hands.now) input.now sealed.now (bucket_of (L.loan lent.old)) self.old.space)
+            (setting_of which (H.behavior hands.now) input.now sealed.now (bucket_of (L.loan lent.old)) self.old.space)
             index (machine_of self.old (words_of (L.loan lent.old)) log.old notes.old)
             (machine_of self.new (words_of (L.loan lent.new)) log.new notes.new) (outcome_of result) core.old core.new }
         ensures lent { place_of (L.loan lent.new) ≡ place_of (L.loan lent.old) }
@@ -211,6 +211,40 @@ impl Pass {
         )
     }
 
+    /// Makes the step of the phase at `index`, as far as a loop over its steps makes it: it returns
+    /// the index that it leads on to in the phase, or `None` and in `exit` how it left the loop, which
+    /// says what is left to do of it.
+    #[inline(always)]
+    pub fn lead_on<U, H: Handler, L: Lent, K: Core>(
+        &mut self,
+        phase: Phase,
+        hands: &H,
+        lent: &mut L,
+        log: &mut WriteLog,
+        core: &mut K,
+        index: u64,
+        exit: &mut Exit,
+    ) -> Option<u64>
+        ensures led { (g : Setting) (notes : Notes) → g.statements ≡ (H.behavior hands.now).statements → g.budget ≡ self.old.space.budget →
+            LeadsOrLeaves K.gives g phase
+            (record { machine = machine_of self.old (words_of (L.loan lent.old)) log.old notes; index = index; core = core.old })
+            (led_to result exit.new) (machine_of self.new (words_of (L.loan lent.new)) log.new notes) core.new }
+        ensures after { IfOut (led_to result exit.new) (λ exit. HasIndexAfter exit index) }
+        ensures lent { place_of (L.loan lent.new) ≡ place_of (L.loan lent.old) }
+        ensures space { self.new.space ≡ self.old.space }
+        ensures pass { IsPass self.new }
+        ensures log { log.new.room ≡ log.old.room }
+        ensures log_fits { length log.old.items ≤ log.old.room → length log.new.items ≤ log.new.room }
+    {
+        if self.frame.made < self.space.budget {
+            self.frame
+                .lead::<U, L, K>(phase, hands.table(), lent, log, core, index, exit)
+        } else {
+            *exit = Exit::Alone;
+            None
+        }
+    }
+
     /// Makes the steps of the phase from the index `from`, as long as each leads on in it, and of the
     /// next one what can be made in a loop: how it left that one says what is left to do of it. The
     /// statements are those of the table, with each of their effects asked of `core`.
@@ -224,7 +258,7 @@ impl Pass {
         core: &mut K,
         from: u64,
     ) -> Ran
-        ensures ran { (g : Setting) (notes : Notes) → g.statements ≡ H.statements hands.now → g.budget ≡ self.old.space.budget →
+        ensures ran { (g : Setting) (notes : Notes) → g.statements ≡ (H.behavior hands.now).statements → g.budget ≡ self.old.space.budget →
             RunsLoop K.gives g phase result.before result.index
             (record { machine = machine_of self.old (words_of (L.loan lent.old)) log.old notes; index = from; core = core.old })
             result.exit (machine_of self.new (words_of (L.loan lent.new)) log.new notes) core.new }

@@ -1,7 +1,7 @@
 //! The rooms and the budget of a pass.
-ghost use Rattle.std.specs.Prelude.{◌≡◌};
+ghost use Rattle.std.specs.Prelude.{◌≡◌, ◌≤◌};
 ghost use Rattle.mc_model.specs.Server.{IsValid};
-ghost use Rattle.sei_pass.specs.Spaces.{input_room, output_room, bytes_room, log_room, budget_of, pass_space};
+ghost use Rattle.sei_pass.specs.Spaces.{input_for, output_for, bytes_for, log_for, budget_for, pass_space_for};
 
 use mc_model::Geometry;
 
@@ -10,6 +10,8 @@ use mc_model::Geometry;
 pub struct PassSpace {
     /// What the words are laid out by.
     pub geometry: Geometry,
+    /// How many words a value or a block of a call may have.
+    pub words: u64,
     /// How many input words there may be.
     pub input: u64,
     /// How many output words there may be.
@@ -23,60 +25,65 @@ pub struct PassSpace {
 }
 
 /// How many input words a call may have: 14 fields, a key of 32 words, and a block.
-pub fn input_room(g: &Geometry) -> u64
-    requires { IsValid g.now }
-    ensures { result ≡ input_room g.now }
+fn input_room(words: u64) -> u64
+    requires { words ≤ 1024 }
+    ensures { result ≡ input_for words }
 {
-    46 + g.value_words
+    46 + words
 }
 
 /// How many output words a call may have: two items of 8 fields at most, a key of 32 words, and a
 /// value.
-pub fn output_room(g: &Geometry) -> u64
-    requires { IsValid g.now }
-    ensures { result ≡ output_room g.now }
+fn output_room(words: u64) -> u64
+    requires { words ≤ 1024 }
+    ensures { result ≡ output_for words }
 {
-    48 + g.value_words
+    48 + words
 }
 
 /// How many bytes a reply may have: a value of 8 bytes a word, its key, and 70 bytes more.
-pub fn bytes_room(g: &Geometry) -> u64
-    requires { IsValid g.now }
-    ensures { result ≡ bytes_room g.now }
+fn bytes_room(words: u64) -> u64
+    requires { words ≤ 1024 }
+    ensures { result ≡ bytes_for words }
 {
-    8 * g.value_words + 320
+    8 * words + 320
 }
 
 /// How many changes a pass may log: of the bucket's own words and those of an item, of the mark of
 /// each slot, and of a value.
-pub fn log_room(g: &Geometry) -> u64
-    requires { IsValid g.now }
-    ensures { result ≡ log_room g.now }
+fn log_room(g: &Geometry, words: u64) -> u64
+    requires geometry { IsValid g.now }
+    requires words { words ≤ g.now.value_words }
+    ensures { result ≡ log_for g.now words }
 {
-    48 + g.slots + g.value_words
+    48 + g.slots + words
 }
 
 /// How many statements a pass may make.
-pub fn budget(g: &Geometry) -> u64
-    requires { IsValid g.now }
-    ensures { result ≡ budget_of g.now }
+fn budget(g: &Geometry, words: u64) -> u64
+    requires geometry { IsValid g.now }
+    requires words { words ≤ g.now.value_words }
+    ensures { result ≡ budget_for g.now words }
 {
-    2000 + 400 * g.slots + 100 * g.value_words
+    2000 + 400 * g.slots + 100 * words
 }
 
 impl PassSpace {
-    /// With the room and the statements that each call of this geometry needs.
-    pub fn new(g: &Geometry) -> PassSpace
-        requires { IsValid g.now }
-        ensures { result ≡ pass_space g.now }
+    /// With the room and the statements that a call needs whose values and blocks have at most so many
+    /// words.
+    pub fn new(g: &Geometry, words: u64) -> PassSpace
+        requires geometry { IsValid g.now }
+        requires words { words ≤ g.now.value_words }
+        ensures { result ≡ pass_space_for g.now words }
     {
         PassSpace {
             geometry: *g,
-            input: input_room(g),
-            output: output_room(g),
-            bytes: bytes_room(g),
-            log: log_room(g),
-            budget: budget(g),
+            words,
+            input: input_room(words),
+            output: output_room(words),
+            bytes: bytes_room(words),
+            log: log_room(g, words),
+            budget: budget(g, words),
         }
     }
 }

@@ -52,14 +52,14 @@ impl Frame {
         index: u64,
     ) -> PassStep
         requires geometry { IsOf space.now.geometry (L.loan lent.old) }
-        requires room { length (parsed_words (sealed_call (H.parsed hands.now input.now) sealed.now.nth)) ≤ self.old.input.room }
+        requires room { length (parsed_words (sealed_call ((H.behavior hands.now).parsed input.now) sealed.now.nth)) ≤ self.old.input.room }
         requires fits { length self.old.output.items ≤ self.old.output.room }
         requires bytes_fit { length self.old.bytes.items ≤ self.old.bytes.room }
         requires input_fits { length self.old.input.items ≤ self.old.input.room }
         requires scratch { scratch.old.room ≡ self.old.output.room }
         requires made { self.old.made ≤ space.now.budget }
         ensures stepped { Stepped K.gives K.counts (C.told clock.now)
-            (setting_of which (H.statements hands.now) (H.parsed hands.now) (H.rendered hands.now) input.now sealed.now (bucket_of (L.loan lent.old)) space.now)
+            (setting_of which (H.behavior hands.now) input.now sealed.now (bucket_of (L.loan lent.old)) space.now)
             index (machine_at self.old (words_of (L.loan lent.old)) log.old notes.old)
             (machine_at self.new (words_of (L.loan lent.new)) log.new notes.new) (outcome_of result) core.old core.new }
         ensures lent { place_of (L.loan lent.new) ≡ place_of (L.loan lent.old) }
@@ -105,13 +105,13 @@ impl Frame {
         core: &mut K,
     ) -> PassStep
         requires registers { HasRegisters statement }
-        requires jumps { JumpsInside (length (H.statements hands.now)) index statement }
-        requires small { length (H.statements hands.now) < 2 ^ 63 }
-        requires here { index < length (H.statements hands.now) }
+        requires jumps { JumpsInside (length (H.behavior hands.now).statements) index statement }
+        requires small { length (H.behavior hands.now).statements < 2 ^ 63 }
+        requires here { index < length (H.behavior hands.now).statements }
         requires geometry { IsOf space.now.geometry (L.loan lent.old) }
-        requires room { length (parsed_words (sealed_call (H.parsed hands.now input.now) sealed.now.nth)) ≤ self.old.input.room }
+        requires room { length (parsed_words (sealed_call ((H.behavior hands.now).parsed input.now) sealed.now.nth)) ≤ self.old.input.room }
         requires scratch { length self.old.output.items ≤ scratch.old.room }
-        ensures tree { Runs K.gives (statement_tree (setting_of which (H.statements hands.now) (H.parsed hands.now) (H.rendered hands.now) input.now sealed.now (bucket_of (L.loan lent.old)) space.now time)
+        ensures tree { Runs K.gives (statement_tree (setting_of which (H.behavior hands.now) input.now sealed.now (bucket_of (L.loan lent.old)) space.now time)
             index (machine_at self.old (words_of (L.loan lent.old)) log.old notes.old) statement)
             core.old core.new (after_at self.new (words_of (L.loan lent.new)) log.new notes.new result) }
         ensures lent { place_of (L.loan lent.new) ≡ place_of (L.loan lent.old) }

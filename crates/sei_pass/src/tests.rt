@@ -29,13 +29,7 @@ struct Service {
 impl Handler for Service {
     ghost use Rattle.std.specs.Prelude.{[], ◌∷◌, Some};
 
-    ghost statements = { λ s. s.table };
-
-    ghost call_count = { λ _ _. Some 1 };
-
-    ghost parsed = { λ _ _ _. Some (record { bucket = 0; words = 7 ∷ [] }) };
-
-    ghost rendered = { λ _ _. Some (65 ∷ []) };
+    ghost behavior = { λ s. record { statements = s.table; calls = λ _. Some 1; parsed = λ _ _. Some (record { bucket = 0; words = 7 ∷ [] }); rendered = λ _. Some (65 ∷ []) } };
 
     fn calls(&self, _input: &[u8]) -> Option<u64> {
         Some(1)
@@ -175,15 +169,18 @@ fn a_pass_answers_and_halts(rt: HostRuntime) -> Result<(), Fail> {
     Ok(())
 }
 
-/// The rooms and the budget of one slot with three value words.
+/// The rooms and the budget of one slot with three value words, and less of both for a call of one word.
 #[test]
-fn a_space_is_that_of_its_geometry(rt: HostRuntime) -> Result<(), Fail> {
-    let space = PassSpace::new(&SMALL);
+fn a_space_is_that_of_its_words(rt: HostRuntime) -> Result<(), Fail> {
+    let space = PassSpace::new(&SMALL, 3);
     assert_eq!(rt; space.input, 49);
     assert_eq!(rt; space.output, 51);
     assert_eq!(rt; space.bytes, 344);
     assert_eq!(rt; space.log, 52);
     assert_eq!(rt; space.budget, 2700);
+    let short = PassSpace::new(&SMALL, 1);
+    assert_eq!(rt; short.input, 47);
+    assert_eq!(rt; short.budget, 2500);
     Ok(())
 }
 

@@ -8,3 +8,4 @@ pub mod CappedWords
 pub mod Fit
 pub mod SaysLaws
 pub mod Limits
+pub mod Public

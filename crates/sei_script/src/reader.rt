@@ -1,4 +1,4 @@
-ghost use Rattle.std.specs.Prelude.{◌≡◌, ◌≤◌, IfOk, length, drop, All};
+ghost use Rattle.std.specs.Prelude.{◌≡◌, ◌<◌, ◌≤◌, IfOk, length, drop, All};
 ghost use Rattle.mc_model.specs.Server.{IsValid};
 ghost use Rattle.sei_script.specs.declared.reader.ScriptFault.TheVariants.{Memory};
 ghost use Rattle.sei_script.specs.Limits.{script_limit};
@@ -77,6 +77,7 @@ fn whole(
 /// Reads a script.
 pub fn read_script(alloc: Global, bytes: &[u8]) -> Result<Script, ScriptFault>
     ensures answer { ReadsAs (reading_of script_limit bytes.now) result }
+    ensures too_big { script_limit < length bytes.now → result ≡ Err (ScriptFault.Line 0 Why.TooBig) }
     ensures fit { IfOk result (λ script. AreFit empty_context script) }
     ensures geometry { IfOk result (λ script. IsValid (geometry_of script)) }
     ensures bytes { IfOk result (λ script. All SaysBytes script) }

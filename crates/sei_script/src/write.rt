@@ -1,4 +1,4 @@
-ghost use Rattle.std.specs.Prelude.{◌≡◌, ◌≤◌, OnOk, IfOk};
+ghost use Rattle.std.specs.Prelude.{◌≡◌, ◌<◌, ◌≤◌, [], OnOk, IfOk};
 ghost use Rattle.std.specs.Io.KnownBytes.{append_known};
 ghost use Rattle.sei_outside.specs.Faults.{Rose};
 ghost use Rattle.sei_outside.specs.Bytes.{WrotePart};
@@ -22,8 +22,10 @@ pub enum Stop {
 pub fn write_text<K: Sink>(sink: &mut K, text: &[u8]) -> Result<(), Stop>
     ensures all { OnOk result (K.written sink.new ≡ append_known (K.written sink.old) text.now) }
     ensures part { WrotePart (K.written sink.old) (K.written sink.new) text.now }
+    ensures none { text.now ≡ [] → sink.new ≡ sink.old }
     ensures memory { result ≡ Err Stop.Memory → ⊥ }
     ensures fault { result ≡ Err Stop.WriteFault → Rose (K.faults sink.old) (K.faults sink.new) }
+    ensures told { K.faults sink.old < K.faults sink.new → result ≡ Err Stop.WriteFault }
     ensures later { K.faults sink.old ≤ K.faults sink.new }
 {
     if text.is_empty() {
@@ -56,6 +58,7 @@ impl Reporter {
         ensures all { OnOk result (K.written sink.new ≡ append_known (K.written sink.old) (history_text self.now.history connection number bucket now reply.now)) }
         ensures part { WrotePart (K.written sink.old) (K.written sink.new) (history_text self.now.history connection number bucket now reply.now) }
         ensures fault { result ≡ Err Stop.WriteFault → Rose (K.faults sink.old) (K.faults sink.new) }
+        ensures told { K.faults sink.old < K.faults sink.new → result ≡ Err Stop.WriteFault }
         ensures later { K.faults sink.old ≤ K.faults sink.new }
     {
         if !self.history {
@@ -73,6 +76,7 @@ impl Reporter {
         ensures all { OnOk result (K.written sink.new ≡ append_known (K.written sink.old) (message_text c reply.now)) }
         ensures part { WrotePart (K.written sink.old) (K.written sink.new) (message_text c reply.now) }
         ensures fault { result ≡ Err Stop.WriteFault → Rose (K.faults sink.old) (K.faults sink.new) }
+        ensures told { K.faults sink.old < K.faults sink.new → result ≡ Err Stop.WriteFault }
         ensures later { K.faults sink.old ≤ K.faults sink.new }
     {
         if reply.is_empty() {
@@ -92,6 +96,7 @@ impl Reporter {
         ensures all { OnOk result (K.written sink.new ≡ append_known (K.written sink.old) (closing_line_text c closes)) }
         ensures part { WrotePart (K.written sink.old) (K.written sink.new) (closing_line_text c closes) }
         ensures fault { result ≡ Err Stop.WriteFault → Rose (K.faults sink.old) (K.faults sink.new) }
+        ensures told { K.faults sink.old < K.faults sink.new → result ≡ Err Stop.WriteFault }
         ensures later { K.faults sink.old ≤ K.faults sink.new }
     {
         if !closes {
@@ -108,6 +113,7 @@ impl Reporter {
         ensures all { OnOk result (K.written sink.new ≡ append_known (K.written sink.old) (refused_text c)) }
         ensures part { WrotePart (K.written sink.old) (K.written sink.new) (refused_text c) }
         ensures fault { result ≡ Err Stop.WriteFault → Rose (K.faults sink.old) (K.faults sink.new) }
+        ensures told { K.faults sink.old < K.faults sink.new → result ≡ Err Stop.WriteFault }
         ensures later { K.faults sink.old ≤ K.faults sink.new }
     {
         match refused_text(self.alloc, c) {
@@ -128,6 +134,7 @@ impl Reporter {
         ensures all { OnOk result (K.written sink.new ≡ append_known (K.written sink.old) (abort_text c t phase cause)) }
         ensures part { WrotePart (K.written sink.old) (K.written sink.new) (abort_text c t phase cause) }
         ensures fault { result ≡ Err Stop.WriteFault → Rose (K.faults sink.old) (K.faults sink.new) }
+        ensures told { K.faults sink.old < K.faults sink.new → result ≡ Err Stop.WriteFault }
         ensures later { K.faults sink.old ≤ K.faults sink.new }
     {
         match abort_text(self.alloc, c, t, phase, cause) {

@@ -5,7 +5,7 @@ use Rattle.sei_fault.specs.declared.cause.AbortCause.{AbortCause}
 use Rattle.sei_fault.specs.Tree.{Runs, any_core, honest, questions}
 use Rattle.sei_fault.specs.Strikes.{Split}
 use Rattle.sei_fault.specs.Strikes.Split.{Clean, Once, More}
-use Rattle.sei_fault.proofs.Strikes.{split, grows}
+use Rattle.sei_fault.proofs.Public.{split, grows}
 use Rattle.sei_stmt.specs.Machine.{Machine, Setting, After}
 use Rattle.sei_stmt.specs.Machine.Outcome.{Next, Halted, Bad}
 use Rattle.sei_stmt.specs.Statements.{step_tree}

@@ -2,16 +2,16 @@
 use Rattle.std.proofs.Common.{◌≡◌, ◌≢◌, ◌⊎◌, inl, inr, ℕ, zero, suc, ◌+◌, ◌<◌, List, [], ◌∷◌, ◌++◌, length, Some, slice_get, slice_set, refl, ap, sym, ◌∙◌, arith, subst}
 use Rattle.sei_code.specs.Kept.{Kept}
 use Rattle.sei_fault.specs.Tree.{honest}
-use Rattle.sei_log.proofs.ChangeLaws.{get_set_same, get_set_other, set_same, set_set, undone_push, applied_push, stands_push, stands_last, stands_cases, same_push}
+use Rattle.sei_log.proofs.Public.{get_set_same, get_set_other, set_same, set_set, undone_push, applied_push, stands_push, stands_last, stands_cases, same_push}
 use Rattle.sei_log.specs.Changes.{change_of, undone, applied, Stands, SameOff}
 use Rattle.sei_log.specs.declared.log.Change.{Change}
 use Rattle.sei_stmt.specs.Honest.{after, HonestRun}
 use Rattle.sei_stmt.specs.Machine.{Machine, Setting, After}
 use Rattle.sei_stmt.specs.Machine.Outcome.{Halted}
 use Rattle.sei_stmt.specs.Statements.{step_tree}
-use Rattle.sei_stmt.proofs.Effects.{HonestEffect, keeps_honest}
+use Rattle.sei_stmt.proofs.PublicEffects.{HonestEffect, keeps_honest}
 use Rattle.sei_stmt.proofs.PublicStatementEnds.{all_along}
-use Rattle.sei_stmt.proofs.Effects.HonestEffect.{Left, Changed}
+use Rattle.sei_stmt.proofs.PublicEffects.HonestEffect.{Left, Changed}
 use Rattle.sei_stmt.proofs.HonestLaws.{still_halted}
 
 -- the log leads from these words to those, and back; each change is one; the first one of an address has the word that

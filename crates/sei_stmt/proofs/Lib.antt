@@ -9,6 +9,8 @@ pub mod TieLaws
 pub mod ServeLaws
 pub mod PublicStatementEnds
 pub mod PublicStatementRuns
-pub mod Effects
+pub mod PublicEffects
 pub mod Relog
+pub mod WeightLaws
 pub mod Invariant
+pub mod Public

@@ -4,7 +4,8 @@ use Rattle.std.proofs.Common.{◌≡◌, ℕ, ◌+◌, Bool, true, false, List, 
 use Rattle.std.specs.Prelude.{⊤, is_some, ◌==◌, nat_lt, nat_le}
 use Rattle.sei_code.specs.Kept.{Kept, has_room}
 use Rattle.sei_fault.specs.Question.{Question, Answer, honestly_to}
-use Rattle.sei_fault.specs.Tree.{Tree, honest, questions}
+use Rattle.sei_fault.specs.Tree.{Tree, honest}
+use Rattle.sei_fault.specs.Weights.{weight, weighed}
 use Rattle.sei_fault.specs.Tree.Tree.{Ask}
 use Rattle.sei_fault.specs.declared.cause.AbortCause.{AbortCause}
 use Rattle.sei_fault.specs.declared.cause.AbortCause.TheVariants.{Budget, Table}
@@ -42,15 +43,15 @@ pub plain_is_no_store : (s : Stmt) → IsPlain s → IsStore s → ⊥
 plain_is_no_store (Store address from) p is = p
 plain_is_no_store s p is = is
 
--- one piece of work ends honestly as another but for a part of the machine, asks as many questions, and the first leaves
+-- one piece of work ends honestly as another but for a part of the machine, its questions weigh as much, and the first leaves
 -- these notes
 pub record Repeats (part : Machine → Machine) (notes : Notes) (first second : Tree After) : Type 0 where
   pub ended : honest second ≡ at_outcome (part (honest first).machine) (honest first).outcome
-  pub asked : questions second ≡ questions first
+  pub asked : weighed second ≡ weighed first
   pub left : (honest first).machine.notes ≡ notes
 
 asking : (part : Machine → Machine) (notes : Notes) {q : Question} {f s : Answer q → Tree After} → Repeats part notes (f (honestly_to q)) (s (honestly_to q)) → Repeats part notes (Ask q f) (Ask q s)
-asking part notes r = record { ended = r.ended; asked = ap (λ n. 1 + n) r.asked; left = r.left }
+asking part notes {q} r = record { ended = r.ended; asked = ap (λ n. weight q + n) r.asked; left = r.left }
 
 ended : (part : Machine → Machine) (m : Machine) (o : Outcome) → Repeats part m.notes (ends m o) (ends (part m) o)
 ended part m o = record { ended = refl; asked = refl; left = refl }

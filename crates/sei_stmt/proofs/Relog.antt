@@ -5,8 +5,9 @@ use Rattle.std.specs.Prelude.{⊤, ◌==◌}
 use Rattle.sei_code.specs.Coded.{read_of}
 use Rattle.sei_code.specs.Kept.{Kept, has_room, pushed}
 use Rattle.sei_code.specs.declared.coded.Coded.{Coded}
-use Rattle.sei_fault.proofs.Runs.{always_honest}
-use Rattle.sei_fault.specs.Tree.{Tree, honest, questions}
+use Rattle.sei_fault.proofs.Public.{always_honest}
+use Rattle.sei_fault.specs.Tree.{Tree, honest}
+use Rattle.sei_fault.specs.Weights.{weighed}
 use Rattle.sei_log.specs.Changes.{change_of}
 use Rattle.sei_log.specs.declared.log.Change.{Change}
 use Rattle.sei_stmt.specs.declared.stmt.Stmt.{Stmt}
@@ -14,7 +15,7 @@ use Rattle.sei_stmt.specs.Machine.{Machine, Setting, Outcome, After, register, o
 use Rattle.sei_stmt.specs.Machine.Outcome.{Next, Halted, Bad}
 use Rattle.sei_stmt.specs.Slots.{is_admissible}
 use Rattle.sei_stmt.specs.Statements.{store_if, same_if, store_word, noted_value, noted_now, now_by, fit_if, noted_slot_value, noted_slot, alloc_by, statement_tree, step_tree}
-use Rattle.sei_stmt.proofs.Effects.{Quiet, quiet}
+use Rattle.sei_stmt.proofs.PublicEffects.{Quiet, quiet}
 use Rattle.sei_stmt.proofs.PublicStatementRuns.{IsPlain, looks, plain_is_no_store, plain_repeats, by_statements}
 use Rattle.sei_stmt.proofs.PublicStatementRuns.Looks.{Stores, Times, Slots, Neither}
 
@@ -34,7 +35,7 @@ pub record Relogs (x y : After) : Type 0 where
 -- one piece of work ends as another but for its log, and asks no more
 record Alike (t u : Tree After) : Type 0 where
   end : Relogs (honest t) (honest u)
-  asks : questions t ≤ questions u
+  asks : weighed t ≤ weighed u
 
 -- where the real log has room, so has the other
 room_less : (log real : Kept Change) → log.room ≡ real.room → length log.items ≤ length real.items → has_room real ≡ true → has_room log ≡ true
@@ -145,5 +146,5 @@ pub relog : (g : Setting) (i : ℕ) (m : Machine) (log : Kept Change) → log.ro
 relog g i m log r f go = (alike_step g i m log r f go).end
 
 pub relog_asks : (g : Setting) (i : ℕ) (m : Machine) (log : Kept Change) → log.room ≡ m.log.room → length log.items ≤ length m.log.items →
-    IsGoing (honest (step_tree g i m)).outcome → questions (step_tree g i (with_log m log)) ≤ questions (step_tree g i m)
+    IsGoing (honest (step_tree g i m)).outcome → weighed (step_tree g i (with_log m log)) ≤ weighed (step_tree g i m)
 relog_asks g i m log r f go = (alike_step g i m log r f go).asks

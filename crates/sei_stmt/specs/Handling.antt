@@ -3,11 +3,20 @@ use Rattle.std.specs.Prelude.{ℕ, List, [], length, nat_le, Option, Some, None,
 use Rattle.sei_code.specs.Kept.{Kept}
 use Rattle.sei_code.specs.declared.modes.Rendered.{Rendered}
 use Rattle.sei_code.specs.declared.modes.Rendered.TheVariants.{Done, Full, Bad}
+use Rattle.sei_stmt.specs.declared.stmt.Stmt.{Stmt}
 
 -- a call of an input: its bucket, and the input words of its pass
 pub record Parsed : Type 0 where
   pub bucket : ℕ
   pub words : List ℕ
+
+-- what a handler does: the statements of its table, how many calls an input has (none if it is not one whole request), each
+-- call of an input by its number, from 0, and the bytes that output words stand for (none if the words are malformed)
+pub record Behavior : Type 0 where
+  pub statements : List Stmt
+  pub calls : List ℕ → Option ℕ
+  pub parsed : List ℕ → ℕ → Option Parsed
+  pub rendered : List ℕ → Option (List ℕ)
 
 -- the words that a pass is given, which are none where there is no such call
 abbrev pub parsed_words : Option Parsed → List ℕ

@@ -12,4 +12,4 @@ pub mod Given
 pub mod Programs
 pub mod Written
 pub mod Touch
-pub mod Asked
+pub mod Weights

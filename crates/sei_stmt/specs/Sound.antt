@@ -4,9 +4,8 @@ use Rattle.sei_code.specs.Codes.{message_code}
 use Rattle.sei_log.specs.declared.log.Change.{Change}
 use Rattle.sei_log.specs.declared.notes.Notes as noting
 use Rattle.sei_fault.specs.declared.cause.AbortCause.TheVariants.{Notes}
-use Rattle.sei_stmt.specs.declared.stmt.Stmt.{Stmt}
 use Rattle.sei_stmt.specs.declared.stmt.Stmt.TheVariants.{Parse}
-use Rattle.sei_stmt.specs.Handling.{Parsed}
+use Rattle.sei_stmt.specs.Handling.{Behavior, Parsed}
 use Rattle.sei_stmt.specs.Machine.{Machine, Setting}
 use Rattle.sei_stmt.specs.Machine.Outcome.{Bad}
 use Rattle.sei_stmt.specs.Honest.{after, HonestRun}
@@ -37,19 +36,19 @@ pub data Serves (g : Setting) (Held : List ℕ → Type 0) (reply : List ℕ) (s
 -- A handler is sound for the space of each call, an input and a number, and for two relations of words to a B. From words on which
 -- a run for B starts (Before), each pass of a call in its space leads to words that stand for what the answer leaves (Stands), with
 -- the answer's reply.
-pub record IsSound {B : Type 0} (statements : List Stmt) (parsed : List ℕ → ℕ → Option Parsed) (rendered : List ℕ → Option (List ℕ)) (space : List ℕ → ℕ → Space)
+pub record IsSound {B : Type 0} (h : Behavior) (space : List ℕ → ℕ → Space)
     (Before Stands : List ℕ → B → Type 0) (answer : List ℕ → ℕ → B → ℕ → B × List ℕ) : Type 0 where
-  pub serves : (input : List ℕ) → All (λ b. b < 256) input → (nth : ℕ) (p : Parsed) → parsed input nth ≡ Some p →
-      (g : Setting) → IsPassOf statements rendered (space input nth) g → IsServed g p →
+  pub serves : (input : List ℕ) → All (λ b. b < 256) input → (nth : ℕ) (p : Parsed) → h.parsed input nth ≡ Some p →
+      (g : Setting) → IsPassOf h.statements h.rendered (space input nth) g → IsServed g p →
       (words : List ℕ) (b : B) → Before words b → (now : ℕ) → now < 2 ^ 64 → (notes : noting.Notes) → IsTold g now notes →
       Serves g (λ ws. Stands ws (answer input nth b now).0) (answer input nth b now).1 (beginning (space input nth).rooms words notes)
 
 -- a handler is sound for so many buckets too: its table parses first, and its calls of each input are those whose numbers
 -- are below their number, each for a bucket that is there
-pub record IsSoundHandler {B : Type 0} (statements : List Stmt) (calls : List ℕ → Option ℕ) (parsed : List ℕ → ℕ → Option Parsed) (rendered : List ℕ → Option (List ℕ))
+pub record IsSoundHandler {B : Type 0} (h : Behavior)
     (space : List ℕ → ℕ → Space) (buckets : ℕ) (Before Stands : List ℕ → B → Type 0) (answer : List ℕ → ℕ → B → ℕ → B × List ℕ) : Type 0 where
-  pub sound : IsSound statements parsed rendered space Before Stands answer
-  pub parses : slice_get statements 0 ≡ Some Parse
-  pub counted : (input : List ℕ) (nth count : ℕ) → calls input ≡ Some count → nth < count → (p : Parsed) × (parsed input nth ≡ Some p)
-  pub found : (input : List ℕ) (nth : ℕ) (p : Parsed) → parsed input nth ≡ Some p → (count : ℕ) × (calls input ≡ Some count) × (nth < count)
-  pub there : (input : List ℕ) (nth : ℕ) (p : Parsed) → parsed input nth ≡ Some p → p.bucket < buckets
+  pub sound : IsSound h space Before Stands answer
+  pub parses : slice_get h.statements 0 ≡ Some Parse
+  pub counted : (input : List ℕ) (nth count : ℕ) → h.calls input ≡ Some count → nth < count → (p : Parsed) × (h.parsed input nth ≡ Some p)
+  pub found : (input : List ℕ) (nth : ℕ) (p : Parsed) → h.parsed input nth ≡ Some p → (count : ℕ) × (h.calls input ≡ Some count) × (nth < count)
+  pub there : (input : List ℕ) (nth : ℕ) (p : Parsed) → h.parsed input nth ≡ Some p → p.bucket < buckets

@@ -1,50 +1,40 @@
 //! What runs over a table of statements serve.
 ghost use Rattle.std.specs.Prelude.{◌≡◌, ℕ, ◌≤◌, List, Option, length};
-ghost use Rattle.sei_stmt.specs.declared.stmt.Stmt.{Stmt};
-ghost use Rattle.sei_stmt.specs.Handling.{Parsed, parsed_words, parsed_bucket, refilled, rendered_as, rendered_bytes};
+ghost use Rattle.sei_stmt.specs.Handling.{Behavior, parsed_words, parsed_bucket, refilled, rendered_as, rendered_bytes};
 ghost use Rattle.sei_stmt.specs.Passes.{Space};
 
 use crate::table::Table;
 use sei_code::{Buffer, Rendered, WordList};
 
-/// A service as a table of statements, with the reading of its inputs and the making of its outputs.
+/// What serves by a table of statements, with the reading of its inputs and the making of its outputs.
 pub trait Handler {
-    /// The statements of the table.
-    ghost statements: { Self → List Stmt };
-
-    /// How many calls an input has; it has none where it is not one whole request.
-    ghost call_count: { Self → List ℕ → Option ℕ };
-
-    /// A call of an input by its number, from 0.
-    ghost parsed: { Self → List ℕ → ℕ → Option Parsed };
-
-    /// The bytes that output words stand for; they are none where the words are malformed.
-    ghost rendered: { Self → List ℕ → Option (List ℕ) };
+    /// What the handler does with its inputs and outputs.
+    ghost behavior: { Self → Behavior };
 
     /// How many calls the input has, or `None` exactly where it is not one whole request.
     fn calls(&self, input: &[u8]) -> Option<u64>
-        ensures { result ≡ call_count self.now input.now };
+        ensures { result ≡ (behavior self.now).calls input.now };
 
     /// The bucket of call number `nth`, or `None` exactly where the input has no such call.
     fn bucket(&self, input: &[u8], nth: u64) -> Option<u64>
-        ensures { result ≡ parsed_bucket (parsed self.now input.now nth) };
+        ensures { result ≡ parsed_bucket ((behavior self.now).parsed input.now nth) };
 
     /// Fills `into`, which is emptied first, with the input words of call number `nth`. Answers the
     /// bucket of the call, or `None` exactly where the input has no such call.
     fn parse(&self, input: &[u8], nth: u64, into: &mut WordList) -> Option<u64>
-        requires room { length (parsed_words (parsed self.now input.now nth)) ≤ into.old.room }
-        ensures answer { result ≡ parsed_bucket (parsed self.now input.now nth) }
-        ensures filled { into.new ≡ refilled into.old (parsed_words (parsed self.now input.now nth)) };
+        requires room { length (parsed_words ((behavior self.now).parsed input.now nth)) ≤ into.old.room }
+        ensures answer { result ≡ parsed_bucket ((behavior self.now).parsed input.now nth) }
+        ensures filled { into.new ≡ refilled into.old (parsed_words ((behavior self.now).parsed input.now nth)) };
 
     /// The table. Each pass runs it from its first statement.
     fn table(&self) -> &Table
-        ensures { result.now ≡ statements self.now };
+        ensures { result.now ≡ (behavior self.now).statements };
 
     /// Makes the bytes that the output words stand for. `into` is emptied first, and stays empty where
     /// they are malformed or the bytes do not fit.
     fn render(&self, words: &[u64], into: &mut Buffer) -> Rendered
-        ensures answer { result ≡ rendered_as (rendered self.now words.now) into.old.room }
-        ensures filled { into.new ≡ refilled into.old (rendered_bytes (rendered self.now words.now) into.old.room) };
+        ensures answer { result ≡ rendered_as ((behavior self.now).rendered words.now) into.old.room }
+        ensures filled { into.new ≡ refilled into.old (rendered_bytes ((behavior self.now).rendered words.now) into.old.room) };
 }
 
 /// A handler with a model: the words of a bucket stand for its states, and a call does to a state what

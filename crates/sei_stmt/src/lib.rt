@@ -4,6 +4,7 @@
 
 mod fragment;
 mod handler;
+mod laws;
 mod program;
 mod stmt;
 mod table;
@@ -12,6 +13,7 @@ mod tests;
 
 pub use fragment::{Fragment, place};
 pub use handler::{Handler, Modeled};
+pub use laws::statements_ask_what_weighs;
 pub use program::{Program, Statements};
 pub use stmt::Stmt;
 pub use table::{Table, TableError, target};

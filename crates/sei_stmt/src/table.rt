@@ -62,7 +62,7 @@ pub fn target(at: u64, offset: i64) -> u64
     requires next { at + 1 < 2 ^ 64 }
     ensures { result ≡ target at offset }
 {
-    (at + 1).saturating_add_signed(offset)
+    (at + 1).wrapping_add_signed(offset)
 }
 
 /// Whether a jump at the index `at` goes to one of `count` statements.

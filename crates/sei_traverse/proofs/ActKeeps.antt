@@ -10,7 +10,7 @@ use Rattle.sei_fault.specs.declared.place.Phase.TheVariants.{Guard, Take, First,
 use Rattle.sei_fault.specs.declared.place.Place.{Place}
 use Rattle.sei_fault.specs.Tree.{Tree, Always, bound, honest}
 use Rattle.sei_fault.specs.Tree.Tree.{Done as Ended, Ask}
-use Rattle.sei_fault.proofs.Runs.{always_honest}
+use Rattle.sei_fault.proofs.Public.{always_honest}
 use Rattle.sei_gate.specs.Closing.{risen}
 use Rattle.sei_stmt.specs.Machine.{Outcome}
 use Rattle.sei_stmt.specs.Machine.Outcome.{Next, Halted, Bad}
@@ -27,7 +27,7 @@ use Rattle.sei_traverse.specs.declared.walk.Walk.{Walk}
 use Rattle.sei_traverse.specs.Acts.{Acted, acted, ends, at, closing_then, closes}
 use Rattle.sei_traverse.specs.PassActs.{first_machine, second_machine, with_first, with_second, first_from, first_to, second_from, second_to}
 use Rattle.sei_traverse.specs.Phases.{guard_call, store_wanted, take_wanted, take_tree, undone_as, undone_to, compared, entries_to, outputs_to, word_to, copy_bytes, wire_to, verify_copy, reply_of, send_want}
-use Rattle.sei_traverse.specs.Service.{Given, setting_in}
+use Rattle.sei_traverse.specs.Given.{Given, setting_in}
 use Rattle.sei_traverse.specs.Step.{act_in}
 use Rattle.sei_traverse.proofs.Branches.{other}
 

@@ -7,7 +7,7 @@ use Rattle.sei_fault.specs.Question.{Question, Answer}
 use Rattle.sei_fault.specs.Question.Question.{Test}
 use Rattle.sei_fault.specs.Tree.{Tree, Runs, bound}
 use Rattle.sei_fault.specs.Tree.Tree.{Ask}
-use Rattle.sei_fault.proofs.Runs.{runs_bound}
+use Rattle.sei_fault.proofs.Public.{runs_bound}
 use Rattle.sei_restore.specs.Undoing.{undo_at}
 use Rattle.sei_compare.specs.Comparing.{tested, entry_tree, codes_tree, word_at, wire_tree}
 use Rattle.sei_traverse.specs.declared.turned.Want.TheVariants.{Nothing}

@@ -4,7 +4,8 @@ use Rattle.std.specs.Prelude.{if◌then◌else◌}
 use Rattle.sei_fault.specs.declared.place.Phase.{Phase}
 use Rattle.sei_fault.specs.declared.place.Place.{Place}
 use Rattle.sei_fault.specs.Phases.{phase_number}
-use Rattle.sei_fault.specs.Tree.{Tree, honest, questions}
+use Rattle.sei_fault.specs.Tree.{Tree, honest}
+use Rattle.sei_fault.specs.Weights.{weighed}
 use Rattle.sei_gate.specs.Closing.{risen}
 use Rattle.sei_stmt.specs.Machine.{Outcome}
 use Rattle.sei_stmt.specs.Machine.Outcome.{Next, Halted, Bad}
@@ -33,12 +34,12 @@ closes_in_turn phase w words to h = closes_then phase w words (λ v. ends (recor
 
 -- behind a statement of a pass, no fewer questions are asked than is said
 
-pub first_behind : (w : Walk) (words : List ℕ) (o : Outcome) → asked_behind o ≤ questions (first_from w words o)
+pub first_behind : (w : Walk) (words : List ℕ) (o : Outcome) → asked_behind o ≤ weighed (first_from w words o)
 first_behind w words (Next index) = omega arith
 first_behind w words Halted = omega arith
 first_behind w words (Bad cause) = omega arith
 
-pub second_behind : (w : Walk) (words : List ℕ) (o : Outcome) → asked_behind o ≤ questions (second_from w words o)
+pub second_behind : (w : Walk) (words : List ℕ) (o : Outcome) → asked_behind o ≤ weighed (second_from w words o)
 second_behind w words (Next index) = omega arith
 second_behind w words Halted = omega arith
 second_behind w words (Bad cause) = omega arith

@@ -4,8 +4,7 @@ use Rattle.std.specs.Prelude.{min}
 use Rattle.sei_fault.specs.Counts.{Counts, Answered}
 use Rattle.sei_fault.specs.Question.{Question, Answer, honestly_to}
 use Rattle.sei_fault.specs.Tree.{Tree}
-use Rattle.sei_fault.proofs.Runs.{counted_runs}
-use Rattle.sei_fault.proofs.Strikes.{grows, never_falls}
+use Rattle.sei_fault.proofs.Public.{counted_runs, grows, never_falls}
 use Rattle.sei_traverse.specs.Step.{TimedTwice}
 
 -- a count that grew below its last value, or stands at it, did not fall

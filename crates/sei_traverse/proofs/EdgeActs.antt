@@ -29,7 +29,7 @@ use Rattle.sei_traverse.specs.Comes.{Agrees, Comes}
 use Rattle.sei_traverse.specs.Errand.{Errand, TellsTime, Follows, IsErrand, given_in, first_setting, first_start}
 use Rattle.sei_traverse.specs.PassActs.{first_machine}
 use Rattle.sei_traverse.specs.Phases.{guard_tree, guard_call, take_tree, take_wanted, send_want}
-use Rattle.sei_traverse.specs.Service.{Given, given_of, has_sealed_call, bucket_of_call, bucket_or_zero}
+use Rattle.sei_traverse.specs.Given.{Given, given_of, has_sealed_call, bucket_of_call, bucket_or_zero}
 use Rattle.sei_traverse.specs.Step.{act_in, site_in, plain_below}
 use Rattle.sei_traverse.specs.Unstruck.{take_want, NextIn, IsOf, FirstIsNew, SecondIsNew, SecondIsDone, InGuard, InTake, WantedAt, FirstWaits, FirstRuns, InBoth, InEnter, InGive, HasOutput, InSend, InDone, IsFinished}
 use Rattle.sei_traverse.proofs.Branches.{below}
@@ -39,7 +39,7 @@ use Rattle.sei_traverse.proofs.TimeLaws.{comes_start}
 
 -- what a step is given where this bucket is lent
 abbrev lending : Errand → Option ℕ → Given
-lending e bucket = given_of e.service e.input e.space bucket
+lending e bucket = given_of e.behavior e.input e.space bucket
 
 abbrev behind : Walk → Want → Place → Walk
 behind w want to = record w { gate = record { done = risen w.gate.done }; want = want; place = to }
@@ -94,7 +94,7 @@ guard_passes g w words intact has gate =
 
 -- Guard lets a call of the sealed input pass
 pub guard_on : (e : Errand) (ie : IsErrand e) (now : ℕ) (bucket : Option ℕ) (w : Walk) (words : List ℕ) (steps asked : ℕ) → InGuard e w steps asked →
-    GoesOn e (given_of e.service e.input e.space bucket) now Guard w words (λ left. None) steps asked
+    GoesOn e (given_of e.behavior e.input e.space bucket) now Guard w words (λ left. None) steps asked
 guard_on e ie now bucket w words steps asked i = record {
   act = Plain;
   site = plain_first w.place.index i.index;
@@ -127,7 +127,7 @@ refuses g w words (inr h) = refuses_second (is_intact w.sealed g.input) g w word
 
 -- Guard refuses an input that is not the sealed one, or that doesn't have the sealed call
 pub refused : (g : Given) (w : Walk) (words : List ℕ) → w.place.index ≡ 0 → (is_intact w.sealed g.input ≡ false) ⊎ (has_sealed_call g w.sealed ≡ false) →
-    (site_in g.service w Guard w.place.index ≡ Some Plain) × (honest (guard_tree g w words) ≡ acted w words Refuses)
+    (site_in g.behavior w Guard w.place.index ≡ Some Plain) × (honest (guard_tree g w words) ≡ acted w words Refuses)
 refused g w words index h = (plain_first w.place.index index, refuses g w words h)
 
 -- Take
@@ -202,7 +202,7 @@ module _ (e : Errand) (ie : IsErrand e) (now : ℕ) (bucket : Option ℕ) (w : W
   by_index (suc (suc n)) h le = absurd (omega (arith, le))
 
   -- Take stores the bucket of the call, and then wants it
-  pub take_on : GoesOn e (given_of e.service e.input e.space bucket) now Take w words (λ left. None) steps asked
+  pub take_on : GoesOn e (given_of e.behavior e.input e.space bucket) now Take w words (λ left. None) steps asked
   take_on = by_index w.place.index refl i.index
 
 -- First
@@ -301,7 +301,7 @@ module _ (e : Errand) (now : ℕ) (w : Walk) (words : List ℕ) (steps asked : �
   }
 
   -- Send wants a reply that is not empty to be sent
-  pub send_on : (bucket : Option ℕ) → InSend e w None steps asked → GoesOn e (given_of e.service e.input e.space bucket) now Send w words (λ left. None) steps asked
+  pub send_on : (bucket : Option ℕ) → InSend e w None steps asked → GoesOn e (given_of e.behavior e.input e.space bucket) now Send w words (λ left. None) steps asked
   send_on bucket i =
       let want : Want = send_want w.second.bytes.items in
       record {
@@ -329,7 +329,7 @@ module _ (e : Errand) (now : ℕ) (w : Walk) (words : List ℕ) (steps asked : �
 -- the act leads to the end, where the traversal is finished
 pub record Finishes (e : Errand) (g : Given) (now : ℕ) (phase : Phase) (w : Walk) (words : List ℕ) (steps asked : ℕ) : Type 0 where
   pub act : Act
-  pub site : site_in g.service w phase w.place.index ≡ Some act
+  pub site : site_in g.behavior w phase w.place.index ≡ Some act
   pub walk : Walk
   pub left : List ℕ
   pub acts : honest (act_in g now phase w.place.index w words) ≡ acted walk left (Leads (at Done 1))
@@ -338,7 +338,7 @@ pub record Finishes (e : Errand) (g : Given) (now : ℕ) (phase : Phase) (w : Wa
 
 -- Done leads to the end
 pub done_on : (e : Errand) (now : ℕ) (bucket : Option ℕ) (w : Walk) (words : List ℕ) (steps asked : ℕ) → InDone e w steps asked →
-    Finishes e (given_of e.service e.input e.space bucket) now Done w words steps asked
+    Finishes e (given_of e.behavior e.input e.space bucket) now Done w words steps asked
 done_on e now bucket w words steps asked i = record {
   act = Plain;
   site = plain_first w.place.index i.index;

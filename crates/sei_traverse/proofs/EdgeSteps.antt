@@ -18,7 +18,7 @@ use Rattle.sei_traverse.specs.declared.walk.Walk.{Walk}
 use Rattle.sei_traverse.specs.Acts.{Acted, ends, at, closes}
 use Rattle.sei_traverse.specs.Facts.{IsLikeWalk}
 use Rattle.sei_traverse.specs.Phases.{reply_of, send_want}
-use Rattle.sei_traverse.specs.Service.{Given}
+use Rattle.sei_traverse.specs.Given.{Given}
 use Rattle.sei_traverse.specs.Step.{Turn, act_in, act_tree, site_of, goes_from, goes_on, once, twice, twice_from, turn_as, turn_at, turn_tree}
 use Rattle.sei_traverse.proofs.ActKeeps.{IsNoStore, Keeps, keeps, closing_always}
 
@@ -70,7 +70,7 @@ module _ (P : Walk → List ℕ → Type 0) (g : Given) (w : Walk) (moved : (u :
   at_site now later u left same h (Some act) = λ times. as_often now later u left act same h times
 
   pub turn_keeps : (now later : ℕ) (words : List ℕ) → P (record w { want = Nothing }) words → Always Ends (turn_tree g now later w words)
-  turn_keeps now later words h = at_site now later (record w { want = Nothing }) words refl h (site_of g.service (record w { want = Nothing }))
+  turn_keeps now later words h = at_site now later (record w { want = Nothing }) words refl h (site_of g.behavior (record w { want = Nothing }))
 
 -- The wanted bucket.
 

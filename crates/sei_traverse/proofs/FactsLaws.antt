@@ -14,7 +14,7 @@ use Rattle.sei_traverse.specs.Facts.{StruckCase, Facts}
 use Rattle.sei_traverse.specs.Facts.StruckCase.{Right, Lost}
 use Rattle.sei_traverse.specs.OnWay.{OnWay}
 use Rattle.sei_traverse.specs.State.{TraversalState, begun_traversal}
-use Rattle.sei_traverse.specs.Struck.{NotesSmall, FirstStruck, StruckIn}
+use Rattle.sei_traverse.specs.Struck.{IsNoted, FirstStruck, StruckIn}
 use Rattle.sei_traverse.specs.Struck.FirstStruck.{Restorable}
 use Rattle.sei_traverse.specs.Trusted.{IsTrusted}
 use Rattle.sei_traverse.specs.Unstruck.{FirstIsNew, CleanIn}
@@ -69,7 +69,7 @@ relent e t old new begin now p gate clean struck facts = record {
 
 -- an empty log undoes nothing
 undoes_none : (e : Errand) (w : Walk) (asked : ℕ) → FirstIsNew e w → FirstStruck e w e.taken asked
-undoes_none e w asked new = Restorable (subst (λ (n : Notes). NotesSmall n.now) (sym new.notes) tt) (ap (λ (log : Kept Change). undone log.items e.taken) new.first_log)
+undoes_none e w asked new = Restorable (subst (λ (n : Notes). IsNoted e n.now) (sym new.notes) (λ c v is reads. absurd (let z : ⊥ = cc in z))) (ap (λ (log : Kept Change). undone log.items e.taken) new.first_log)
 
 pub facts_lent : (e : Errand) (t : TraversalState) (begin now : Counts) → IsTrusted e → t.walk.gate.done ≡ 2 → Facts e t None begin now → Facts e t (Some e.taken) begin now
 facts_lent e t begin now trusted gate facts =

@@ -3,12 +3,13 @@ use Rattle.std.proofs.Common.{◌≡◌, ℕ, suc, ◌+◌, ◌≤◌, List, Opt
 use Rattle.sei_fault.specs.declared.place.Act.{Act}
 use Rattle.sei_fault.specs.declared.place.Phase.{Phase}
 use Rattle.sei_fault.specs.declared.place.Place.{Place}
-use Rattle.sei_fault.specs.Tree.{honest, questions}
+use Rattle.sei_fault.specs.Tree.{honest}
+use Rattle.sei_fault.specs.Weights.{weighed}
 use Rattle.sei_traverse.specs.declared.walk.Ending.TheVariants.{Leads}
 use Rattle.sei_traverse.specs.declared.walk.Walk.{Walk}
 use Rattle.sei_traverse.specs.Acts.{acted}
 use Rattle.sei_traverse.specs.Errand.{Errand}
-use Rattle.sei_traverse.specs.Service.{Given}
+use Rattle.sei_traverse.specs.Given.{Given}
 use Rattle.sei_traverse.specs.Step.{site_in, act_in}
 use Rattle.sei_traverse.specs.Unstruck.{want_in, NextIn, CleanIn}
 
@@ -16,7 +17,7 @@ use Rattle.sei_traverse.specs.Unstruck.{want_in, NextIn, CleanIn}
 -- that it leaves what is lent then
 pub record GoesOn (e : Errand) (g : Given) (now : ℕ) (phase : Phase) (w : Walk) (words : List ℕ) (after : List ℕ → Option (List ℕ)) (steps asked : ℕ) : Type 0 where
   pub act : Act
-  pub site : site_in g.service w phase w.place.index ≡ Some act
+  pub site : site_in g.behavior w phase w.place.index ≡ Some act
   pub walk : Walk
   pub left : List ℕ
   pub to : Place
@@ -24,5 +25,5 @@ pub record GoesOn (e : Errand) (g : Given) (now : ℕ) (phase : Phase) (w : Walk
   pub acts : honest (act_in g now phase w.place.index w words) ≡ acted walk left (Leads to)
   pub want : walk.want ≡ want_in e w phase
   pub more : ℕ
-  pub asks : more ≤ questions (act_in g now phase w.place.index w words)
+  pub asks : more ≤ weighed (act_in g now phase w.place.index w words)
   pub clean : CleanIn e (record walk { place = to }) (after left) (suc steps) (asked + more) to.phase

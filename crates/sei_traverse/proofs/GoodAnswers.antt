@@ -6,20 +6,20 @@ use Rattle.sei_fault.specs.declared.cause.AbortCause.{AbortCause}
 use Rattle.sei_fault.specs.Tree.{honest}
 use Rattle.sei_stmt.specs.declared.stmt.Stmt.{Stmt}
 use Rattle.sei_stmt.specs.declared.stmt.Stmt.TheVariants.{Parse}
-use Rattle.sei_stmt.specs.Asked.{first_asked}
+use Rattle.sei_stmt.specs.Weights.{first_weighed}
 use Rattle.sei_stmt.specs.Handling.{Parsed, parsed_words}
 use Rattle.sei_stmt.specs.Honest.{after, HonestRun}
 use Rattle.sei_stmt.specs.Machine.{Machine, Setting, Outcome, After, with_input, one_made}
 use Rattle.sei_stmt.specs.Machine.Outcome.{Halted, Bad}
 use Rattle.sei_stmt.specs.Passes.{notes_of}
 use Rattle.sei_stmt.specs.Statements.{is_lent, bucket_if, call_if, intact_if, parse_tree, count_if, found_tree}
-use Rattle.sei_stmt.proofs.HonestLaws.{halts_or_aborts}
+use Rattle.sei_stmt.proofs.Public.{halts_or_aborts}
 use Rattle.sei_traverse.specs.declared.walk.Walk.{Walk}
 use Rattle.sei_traverse.specs.Comes.{renoted}
 use Rattle.sei_traverse.specs.Errand.{Errand, given_in, first_start}
 use Rattle.sei_traverse.specs.PassActs.{second_machine}
-use Rattle.sei_traverse.specs.Service.{call_of}
-use Rattle.sei_traverse.specs.Struck.{NotesSmall, IsHonestResult, ComesOn, setting_on, start_on}
+use Rattle.sei_traverse.specs.Given.{call_of}
+use Rattle.sei_traverse.specs.Struck.{IsNoted, IsHonestResult, ComesOn, setting_on, start_on}
 use Rattle.sei_traverse.specs.Trusted.{PassesGuard, IsTrusted, second_setting}
 use Rattle.sei_traverse.proofs.SmallNotes.{small_sealed}
 
@@ -95,17 +95,18 @@ module _ (e : Errand) (trusted : IsTrusted e) (w : Walk) (passed : Passed (setti
       eqb-true w.wanted e.call.bucket lent
 
 -- the words and the output that it leaves are those of an honest run
-pub good_answers : (e : Errand) → IsTrusted e → (w : Walk) (words : List ℕ) (asked n : ℕ) → NotesSmall w.notes.now → ComesOn e w e.taken words Halted n →
-    first_asked (setting_on e w.wanted) (start_on e e.taken w.notes) n + 1 ≤ asked → IsHonestResult e w words asked
+pub good_answers : (e : Errand) → IsTrusted e → (w : Walk) (words : List ℕ) (asked n : ℕ) → IsNoted e w.notes.now → ComesOn e w e.taken words Halted n →
+    first_weighed (setting_on e w.wanted) (start_on e e.taken w.notes) n + 1 ≤ asked → IsHonestResult e w words asked
 good_answers e trusted w words asked n small comes asks =
     let passed = halted_passed (setting_on e w.wanted) (start_on e e.taken w.notes) (second_machine w words) n trusted.parses (record { halts = comes }) in
     let fit : PassesGuard e = good_fit e trusted w passed in
     let wanted : w.wanted ≡ e.call.bucket = good_wanted e trusted w passed in
     let ends : HonestRun (second_setting e) (renoted w.notes (first_start e)) (second_machine w words) n =
     subst (λ (b : ℕ). HonestRun (setting_on e b) (start_on e e.taken w.notes) (second_machine w words) n) wanted (record { halts = comes }) in
-    let asks_all : first_asked (second_setting e) (renoted w.notes (first_start e)) n + 1 ≤ asked =
-    subst (λ (b : ℕ). first_asked (setting_on e b) (start_on e e.taken w.notes) n + 1 ≤ asked) wanted asks in
+    let asks_all : first_weighed (second_setting e) (renoted w.notes (first_start e)) n + 1 ≤ asked =
+    subst (λ (b : ℕ). first_weighed (setting_on e b) (start_on e e.taken w.notes) n + 1 ≤ asked) wanted asks in
     let read = trusted.reads fit w.notes (second_machine w words) n ends in
+    let may = small_sealed e w.notes.now read.time read.noted small in
     record {
       aimed = record { fit = fit; wanted = wanted };
       time = read.time;
@@ -113,7 +114,8 @@ good_answers e trusted w words asked n small comes asks =
       end = renoted (notes_of read.time read.slot) (second_machine w words);
       made = n;
       noted = read.noted;
-      small = small_sealed w.notes.now read.time read.noted small;
+      small = may.0;
+      told = may.1;
       run = read.run;
       words_are = refl;
       reply = refl;

@@ -1,5 +1,5 @@
 -- A whole step without a strike, from what its act does.
-use Rattle.std.proofs.Common.{◌≡◌, ℕ, suc, ◌+◌, ◌-◌, ◌^◌, ◌<◌, Bool, false, List, Option, Some, refl, ap, ◌∙◌, arith}
+use Rattle.std.proofs.Common.{◌≡◌, ℕ, suc, ◌+◌, ◌-◌, ◌^◌, ◌<◌, ◌≤◌, Bool, false, List, Option, Some, refl, ap, ◌∙◌, arith}
 use Rattle.std.specs.Prelude.{◌==◌, ◌&&◌, if◌then◌else◌}
 use Rattle.sei_fault.specs.Counts.{Counts}
 use Rattle.sei_fault.specs.declared.place.Act.{Act}
@@ -7,18 +7,17 @@ use Rattle.sei_fault.specs.declared.place.Phase.{Phase}
 use Rattle.sei_fault.specs.declared.place.Phase.TheVariants.{Guard, Take, First, Restore, Second, Compare, Verify, Enter, Give, Send, Done}
 use Rattle.sei_fault.specs.declared.place.Place.{Place}
 use Rattle.sei_fault.specs.Phases.{phase_number}
-use Rattle.sei_fault.specs.Strikes.{Split}
-use Rattle.sei_fault.specs.Strikes.Split.{Clean as NoStrike, Once as OneFell, More}
-use Rattle.sei_fault.specs.Tree.{Runs, any_core, honest, questions}
-use Rattle.sei_fault.proofs.Bound.{honest_bound, questions_bound}
-use Rattle.sei_fault.proofs.Strikes.{split}
+use Rattle.sei_fault.specs.Tree.{Tree, Runs, any_core, honest}
+use Rattle.sei_fault.specs.Weights.{weighed}
+use Rattle.sei_fault.proofs.Public.{honest_bound, weighed_bound, Counted, count}
+use Rattle.sei_fault.proofs.PublicStruckRuns.Counted.{Clean as NoStrike, Once as OneFell, More}
 use Rattle.sei_traverse.specs.declared.turned.State.TheVariants.{Went, Finished, Refused}
 use Rattle.sei_traverse.specs.declared.turned.Want.TheVariants.{Nothing}
 use Rattle.sei_traverse.specs.declared.walk.Ending.TheVariants.{Leads, Refuses}
 use Rattle.sei_traverse.specs.declared.walk.Walk.{Walk}
 use Rattle.sei_traverse.specs.Acts.{Acted, acted, at}
 use Rattle.sei_traverse.specs.Errand.{Errand}
-use Rattle.sei_traverse.specs.Service.{Given}
+use Rattle.sei_traverse.specs.Given.{Given}
 use Rattle.sei_traverse.specs.Step.{act_tree, site_of, Turn, turn, is_end, arrival, goes_on, turn_at, turn_tree}
 use Rattle.sei_traverse.specs.Unstruck.{CleanIn}
 use Rattle.sei_traverse.proofs.EdgeActs.{Finishes}
@@ -48,10 +47,10 @@ arrives_last : (phase : Phase) (done : ℕ) → done ≡ 11 → arrival phase (a
 arrives_last phase done h = ap (arrival phase (at Done 1)) h
 
 -- where nothing struck, a run is the honest one
-unstruck : {R : Type 0} (x clean : R) (once : Type 0) (n : ℕ) (c d : Counts) → d.struck ≡ c.struck → Split x clean once n c d → (x ≡ clean) × (d.asked < 2 ^ 128 - 1 → d.asked ≡ c.asked + n)
-unstruck x clean once n c d none (NoStrike e s a) = (e, a)
-unstruck x clean once n c d none (OneFell f s) = absurd (omega (arith, none, s))
-unstruck x clean once n c d none (More s) = absurd (omega (arith, none, s))
+unstruck : {R : Type 0} (tree : Tree R) (x : R) (c d : Counts) → d.struck ≡ c.struck → Counted tree x c d → (x ≡ honest tree) × (d.asked < 2 ^ 128 - 1 → c.asked + weighed tree ≤ d.asked)
+unstruck tree x c d none (NoStrike e s a) = (e, a)
+unstruck tree x c d none (OneFell n run s a) = absurd (omega (arith, none, s))
+unstruck tree x c d none (More s) = absurd (omega (arith, none, s))
 
 -- a step wants nothing before its act
 abbrev pub unwanting : Walk → Walk
@@ -59,29 +58,29 @@ unwanting w = record w { want = Nothing }
 
 module _ (g : Given) (now later : ℕ) (w : Walk) (words : List ℕ) where
   -- the act is made once
-  honest_turn : (act : Act) (x : Acted) → site_of g.service (unwanting w) ≡ Some act → honest (act_tree g now (unwanting w) words) ≡ x → honest (turn_tree g now later w words) ≡ honest (goes_on x)
+  honest_turn : (act : Act) (x : Acted) → site_of g.behavior (unwanting w) ≡ Some act → honest (act_tree g now (unwanting w) words) ≡ x → honest (turn_tree g now later w words) ≡ honest (goes_on x)
   honest_turn act x site acts =
       ap (λ (o : Option Act). honest (turn_at g now later (unwanting w) words o)) site
       ∙ honest_bound (act_tree g now (unwanting w) words) goes_on
       ∙ ap (λ (y : Acted). honest (goes_on y)) acts
 
-  turn_questions : (act : Act) (x : Acted) → site_of g.service (unwanting w) ≡ Some act → honest (act_tree g now (unwanting w) words) ≡ x →
-      questions (turn_tree g now later w words) ≡ 1 + (questions (act_tree g now (unwanting w) words) + questions (goes_on x))
-  turn_questions act x site acts =
-      ap (λ (o : Option Act). questions (turn_at g now later (unwanting w) words o)) site
-      ∙ ap (λ (n : ℕ). 1 + n) (questions_bound (act_tree g now (unwanting w) words) goes_on ∙ ap (λ (y : Acted). questions (act_tree g now (unwanting w) words) + questions (goes_on y)) acts)
+  turn_weighed : (act : Act) (x : Acted) → site_of g.behavior (unwanting w) ≡ Some act → honest (act_tree g now (unwanting w) words) ≡ x →
+      weighed (turn_tree g now later w words) ≡ 0 + (weighed (act_tree g now (unwanting w) words) + weighed (goes_on x))
+  turn_weighed act x site acts =
+      ap (λ (o : Option Act). weighed (turn_at g now later (unwanting w) words o)) site
+      ∙ ap (λ (n : ℕ). 0 + n) (weighed_bound (act_tree g now (unwanting w) words) goes_on ∙ ap (λ (y : Acted). weighed (act_tree g now (unwanting w) words) + weighed (goes_on y)) acts)
 
   -- where the act leads to a place, the step goes there
-  pub leads_turn : (act : Act) (u : Walk) (left : List ℕ) (to : Place) → site_of g.service (unwanting w) ≡ Some act → honest (act_tree g now (unwanting w) words) ≡ acted u left (Leads to) →
-      (honest (turn_tree g now later w words) ≡ turn (record u { place = to }) left (arrival u.place.phase to u.gate.done)) × (questions (act_tree g now (unwanting w) words) + 2 ≡ questions (turn_tree g now later w words))
+  pub leads_turn : (act : Act) (u : Walk) (left : List ℕ) (to : Place) → site_of g.behavior (unwanting w) ≡ Some act → honest (act_tree g now (unwanting w) words) ≡ acted u left (Leads to) →
+      (honest (turn_tree g now later w words) ≡ turn (record u { place = to }) left (arrival u.place.phase to u.gate.done)) × (weighed (act_tree g now (unwanting w) words) ≡ weighed (turn_tree g now later w words))
   leads_turn act u left to site acts =
-      (honest_turn act (acted u left (Leads to)) site acts, omega (arith, turn_questions act (acted u left (Leads to)) site acts))
+      (honest_turn act (acted u left (Leads to)) site acts, omega (arith, turn_weighed act (acted u left (Leads to)) site acts))
 
   -- where the act refuses, so does the step
-  pub refuses_turn : (act : Act) (u : Walk) (left : List ℕ) → site_of g.service (unwanting w) ≡ Some act → honest (act_tree g now (unwanting w) words) ≡ acted u left Refuses →
-      (honest (turn_tree g now later w words) ≡ turn u left Refused) × (questions (act_tree g now (unwanting w) words) + 1 ≡ questions (turn_tree g now later w words))
+  pub refuses_turn : (act : Act) (u : Walk) (left : List ℕ) → site_of g.behavior (unwanting w) ≡ Some act → honest (act_tree g now (unwanting w) words) ≡ acted u left Refuses →
+      (honest (turn_tree g now later w words) ≡ turn u left Refused) × (weighed (act_tree g now (unwanting w) words) ≡ weighed (turn_tree g now later w words))
   refuses_turn act u left site acts =
-      (honest_turn act (acted u left Refuses) site acts, omega (arith, turn_questions act (acted u left Refuses) site acts))
+      (honest_turn act (acted u left Refuses) site acts, omega (arith, turn_weighed act (acted u left Refuses) site acts))
 
   -- a step whose act goes on leads to its place
   pub clean_turn : (e : Errand) (after : List ℕ → Option (List ℕ)) (steps asked : ℕ) (a : GoesOn e g now w.place.phase (unwanting w) words after steps asked) →
@@ -98,7 +97,7 @@ module _ (g : Given) (now later : ℕ) (w : Walk) (words : List ℕ) where
       (leads_turn a.act a.walk a.left (at Done 1) a.site a.acts).0
       ∙ ap (turn (record a.walk { place = at Done 1 }) a.left) (arrives_last a.walk.place.phase a.walk.gate.done a.finished.gate)
 
-  -- a run of a step in which nothing struck is the honest one, and its questions were counted
+  -- a run of a step in which nothing struck is the honest one, and what its questions weigh was counted
   pub clean_run : (c d : Counts) (x : Turn) → Runs any_core (turn_tree g now later w words) c d x → d.struck ≡ c.struck →
-      (x ≡ honest (turn_tree g now later w words)) × (d.asked < 2 ^ 128 - 1 → d.asked ≡ c.asked + questions (turn_tree g now later w words))
-  clean_run c d x r none = unstruck x _ _ _ c d none (split (turn_tree g now later w words) c d x r)
+      (x ≡ honest (turn_tree g now later w words)) × (d.asked < 2 ^ 128 - 1 → c.asked + weighed (turn_tree g now later w words) ≤ d.asked)
+  clean_run c d x r none = unstruck (turn_tree g now later w words) x c d none (count (turn_tree g now later w words) c d x r)

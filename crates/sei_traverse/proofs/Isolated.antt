@@ -16,7 +16,8 @@ use Rattle.sei_traverse.specs.Errand.{Errand}
 use Rattle.sei_traverse.specs.Facts.{Facts, LendsWanted, Isolates}
 use Rattle.sei_traverse.specs.OnWay.{lent_words, TellsAs}
 use Rattle.sei_traverse.specs.Phases.{reply_of}
-use Rattle.sei_traverse.specs.Service.{Service, given_of}
+use Rattle.sei_traverse.specs.Given.{given_of}
+use Rattle.sei_stmt.specs.Handling.{Behavior}
 use Rattle.sei_traverse.specs.State.{TraversalState, one_more}
 use Rattle.sei_traverse.specs.Step.{act_in, turn, turn_tree, TimedTwice}
 use Rattle.sei_traverse.specs.Trusted.{IsTrusted}
@@ -73,12 +74,12 @@ answered_law e trusted = λ w time made end asked aimed i.
 -- law and any clock that is the errand's
 pub isolates_one : {S : Type 0} (gives : S → (q : Question) → Answer q → S → Type 0) (counts : S → Counts) →
     ((s : S) (q : Question) (a : Answer q) (t : S) → gives s q a t → Answered (a ≡ honestly_to q) (counts s) (counts t)) →
-    (told : Option ℕ) (e : Errand) (begin : Counts) (old new : TraversalState) (loan left : Option BucketWords) (state : State) (s t : S) (service : Service) (input : List ℕ) →
-    e.service ≡ service → e.input ≡ input →
-    TimedTwice gives told (λ now later. turn_tree (given_of service input old.space (bucket_of loan)) now later old.walk (words_of loan)) s t (turn new.walk (words_of left) state) →
+    (told : Option ℕ) (e : Errand) (begin : Counts) (old new : TraversalState) (loan left : Option BucketWords) (state : State) (s t : S) (behavior : Behavior) (input : List ℕ) →
+    e.behavior ≡ behavior → e.input ≡ input →
+    TimedTwice gives told (λ now later. turn_tree (given_of behavior input old.space (bucket_of loan)) now later old.walk (words_of loan)) s t (turn new.walk (words_of left) state) →
     place_of left ≡ place_of loan → new.space ≡ old.space → new.steps ≡ one_more old.steps → new.walk.sealed ≡ old.walk.sealed →
     IsTrusted e → TellsAs e.clock told → LendsWanted old.walk loan → Facts e old (lent_words loan) begin (counts s) → (counts t).struck ≤ begin.struck + 1 →
     Isolates e old new loan left begin (counts t) new.walk.want state
-isolates_one gives counts law told e begin old new loan left state s t service input f h turned place space steps sealed trusted tells lends facts few =
-    isolates_given e trusted (phase_laws e trusted) (guard_struck e) lost_law (answers_clean e trusted) (answered_law e trusted) gives counts law told begin old new loan left state s t service input f h turned
+isolates_one gives counts law told e begin old new loan left state s t behavior input f h turned place space steps sealed trusted tells lends facts few =
+    isolates_given e trusted (phase_laws e trusted) (guard_struck e) lost_law (answers_clean e trusted) (answered_law e trusted) gives counts law told begin old new loan left state s t behavior input f h turned
     place space steps sealed tells lends facts few

@@ -7,11 +7,10 @@ use Rattle.sei_fault.specs.declared.place.Phase.TheVariants.{Guard, Take, First,
 use Rattle.sei_fault.specs.Phases.{phase_number}
 use Rattle.sei_fault.specs.Question.{Question, Answer, honestly_to}
 use Rattle.sei_fault.specs.StruckRuns.{StruckRun}
-use Rattle.sei_fault.specs.Tree.{Tree, Runs, any_core, honest, questions}
-use Rattle.sei_fault.proofs.Runs.{counted_runs, always}
-use Rattle.sei_fault.proofs.Strikes.{grows, never_falls}
-use Rattle.sei_fault.proofs.StruckRuns.{Counted, count}
-use Rattle.sei_fault.proofs.StruckRuns.Counted.{Clean as NoStrike, Once as OneStrike, More as MoreStrikes}
+use Rattle.sei_fault.specs.Tree.{Tree, Runs, any_core, honest}
+use Rattle.sei_fault.specs.Weights.{weighed}
+use Rattle.sei_fault.proofs.Public.{counted_runs, always, grows, never_falls, Counted, count}
+use Rattle.sei_fault.proofs.PublicStruckRuns.Counted.{Clean as NoStrike, Once as OneStrike, More as MoreStrikes}
 use Rattle.sei_words.specs.Loan.{words_of, bucket_of, place_of}
 use Rattle.sei_words.specs.Words.{BucketWords}
 use Rattle.sei_traverse.specs.declared.turned.State.{State}
@@ -23,7 +22,8 @@ use Rattle.sei_traverse.specs.Facts.{Knows, IsUnstruck, StruckCase, IsStruck, Fa
 use Rattle.sei_traverse.specs.Facts.ClosesOnce.{Stays}
 use Rattle.sei_traverse.specs.Facts.StruckCase.{Right, Lost}
 use Rattle.sei_traverse.specs.OnWay.{lent_words, TellsAs}
-use Rattle.sei_traverse.specs.Service.{Service, given_of}
+use Rattle.sei_traverse.specs.Given.{given_of}
+use Rattle.sei_stmt.specs.Handling.{Behavior}
 use Rattle.sei_traverse.specs.State.{TraversalState, one_more}
 use Rattle.sei_traverse.specs.Step.{Turn, turn, site_of, turn_tree, TimedTwice}
 use Rattle.sei_traverse.specs.Struck.{IsAimed}
@@ -80,7 +80,7 @@ data GateIs (w : Walk) (x : Turn) : Type 0 where
 
 module _ (e : Errand) (trusted : IsTrusted e) (begin c d : Counts) (old new : TraversalState) (loan left : Option BucketWords) (asked more : ℕ)
     (place : place_of left ≡ place_of loan) (space : new.space ≡ e.space) (sealed : new.walk.sealed ≡ e.sealed) (steps : new.steps ≤ suc old.steps)
-    (grown : d.asked < 2 ^ 128 - 1 → c.asked ≤ d.asked) (counted : c.asked < 2 ^ 128 - 1 → begin.asked + asked ≤ c.asked) (risen : d.asked < 2 ^ 128 - 1 → d.asked ≡ c.asked + more)
+    (grown : d.asked < 2 ^ 128 - 1 → c.asked ≤ d.asked) (counted : c.asked < 2 ^ 128 - 1 → begin.asked + asked ≤ c.asked) (risen : d.asked < 2 ^ 128 - 1 → c.asked + more ≤ d.asked)
     (lends : LendsWanted old.walk loan) (kept : IsNoStore old.walk.place.phase old.walk.place.index → new.walk.wanted ≡ old.walk.wanted)
     (still : 7 ≤ old.walk.gate.done → IsRight old.walk → IsLikeWalk old.walk new.walk × (lent_words left ≡ lent_words loan)) where
   abbrev lent : Option (List ℕ)
@@ -93,7 +93,7 @@ module _ (e : Errand) (trusted : IsTrusted e) (begin c d : Counts) (old new : Tr
   enough number le m =
       let before : c.asked ≤ d.asked = grown m in
       let so_far : begin.asked + asked ≤ c.asked = counted (omega (arith, before, m)) in
-      let these : d.asked ≡ c.asked + more = risen m in
+      let these : c.asked + more ≤ d.asked = risen m in
       omega (arith, so_far, these, le)
 
   -- what is wanted is so, and is wanted once; in both cases of the gate
@@ -238,32 +238,32 @@ module _ (e : Errand) (trusted : IsTrusted e) (laws : (phase : Phase) → (phase
     seal : new.walk.sealed ≡ e.sealed
     seal = sealed ∙ clean_sealed e v (lent_words loan) old.steps asked old.walk.place.phase clean
 
-    nor_now : d.struck ≡ begin.struck → x ≡ honest tree → (d.asked < 2 ^ 128 - 1 → d.asked ≡ c.asked + questions tree) → IsIsolated
+    nor_now : d.struck ≡ begin.struck → x ≡ honest tree → (d.asked < 2 ^ 128 - 1 → c.asked + weighed tree ≤ d.asked) → IsIsolated
     nor_now none is risen =
         let well = stays_clean e trusted laws guard_struck lost both answered now later small told small_later told_later loan v refl old.steps asked clean knows (lends gate) in
-        let there = subst (λ (y : Turn). EndsWell e (CleanStands e (suc old.steps)) (left_of loan) (phase_number old.walk.place.phase) (asked + questions tree) y) (sym is) well in
-        let ends = subst (λ (n : ℕ). EndsWell e (CleanStands e (suc old.steps)) (left_of loan) n (asked + questions tree) x) (sym gate) there in
-        isolates_clean e trusted begin c d old new loan left asked (questions tree) place (space ∙ unstruck.clean.space) seal steps_at_most grown unstruck.clean.counted risen lends kept still state none ends (IsRightly gate)
+        let there = subst (λ (y : Turn). EndsWell e (CleanStands e (suc old.steps)) (left_of loan) (phase_number old.walk.place.phase) (asked + weighed tree) y) (sym is) well in
+        let ends = subst (λ (n : ℕ). EndsWell e (CleanStands e (suc old.steps)) (left_of loan) n (asked + weighed tree) x) (sym gate) there in
+        isolates_clean e trusted begin c d old new loan left asked (weighed tree) place (space ∙ unstruck.clean.space) seal steps_at_most grown unstruck.clean.counted risen lends kept still state none ends (IsRightly gate)
         (halves e trusted old.walk new.walk (lent_words loan) (left_of loan (words_of left)) old.steps asked ends.wanting (IsAborted state) gate
         (λ seven. let s = still seven gate in (s.0, still_lent loan left (words_of left) place refl ∙ s.1)) unstruck.clean.clean.in_phase unstruck.knows ends.once ends.wanted)
 
-    now_struck : d.struck ≡ begin.struck + 1 → (n : ℕ) → StruckRun tree x n → (d.asked < 2 ^ 128 - 1 → d.asked ≡ c.asked + n) → IsIsolated
+    now_struck : d.struck ≡ begin.struck + 1 → (n : ℕ) → StruckRun tree x n → (d.asked < 2 ^ 128 - 1 → c.asked + n ≤ d.asked) → IsIsolated
     now_struck fell n strikes risen =
-        let well = strikes_well e trusted laws guard_struck lost both answered now later small told small_later told_later loan v refl old.steps asked clean knows (lends gate) (site_of e.service v) x n strikes in
+        let well = strikes_well e trusted laws guard_struck lost both answered now later small told small_later told_later loan v refl old.steps asked clean knows (lends gate) (site_of e.behavior v) x n strikes in
         isolates_struck e trusted begin c d old new loan left asked n place (space ∙ unstruck.clean.space) seal steps_at_most grown unstruck.clean.counted risen lends kept still state fell
         (subst (λ (m : ℕ). EndsWell e (StruckStands e) (left_of loan) m (asked + n) x) (sym gate) well) (IsRightly gate)
 
   -- it was struck before
-  was_struck : IsStruck e old (lent_words loan) begin c → d.struck ≡ begin.struck + 1 → x ≡ honest tree → (d.asked < 2 ^ 128 - 1 → d.asked ≡ c.asked + questions tree) → IsIsolated
+  was_struck : IsStruck e old (lent_words loan) begin c → d.struck ≡ begin.struck + 1 → x ≡ honest tree → (d.asked < 2 ^ 128 - 1 → c.asked + weighed tree ≤ d.asked) → IsIsolated
   was_struck struck fell is risen =
       let case = settles_case e old.walk (lent_words loan) struck.asked struck.case in
-      let well = stays_well e laws lost now later small told loan v refl struck.asked struck.sealed case lends (site_of e.service v) in
-      isolates_struck e trusted begin c d old new loan left struck.asked (questions tree) place (space ∙ struck.space) (sealed ∙ struck.sealed) steps_at_most grown struck.counted risen lends kept still state fell
-      (subst (λ (y : Turn). EndsWell e (StruckStands e) (left_of loan) old.walk.gate.done (struck.asked + questions tree) y) (sym is) well) (by_gate case)
+      let well = stays_well e laws lost now later small told loan v refl struck.asked struck.sealed case lends (site_of e.behavior v) in
+      isolates_struck e trusted begin c d old new loan left struck.asked (weighed tree) place (space ∙ struck.space) (sealed ∙ struck.sealed) steps_at_most grown struck.counted risen lends kept still state fell
+      (subst (λ (y : Turn). EndsWell e (StruckStands e) (left_of loan) old.walk.gate.done (struck.asked + weighed tree) y) (sym is) well) (by_gate case)
     where
       by_gate : StruckCase e v (lent_words loan) struck.asked → GateIs old.walk x
       by_gate (Right gate stands) = IsRightly gate
-      by_gate (Lost gate fit) = IsLost gate (subst (StaysLost old.walk.gate.done) (sym is) (stays_lost e laws lost now later loan v refl struck.sealed gate fit (site_of e.service v)))
+      by_gate (Lost gate fit) = IsLost gate (subst (StaysLost old.walk.gate.done) (sym is) (stays_lost e laws lost now later loan v refl struck.sealed gate fit (site_of e.behavior v)))
 
   struck_or : (c.struck ≡ begin.struck) ⊎ (c.struck ≡ begin.struck + 1)
   struck_or = let later : begin.struck ≤ c.struck = facts.later in let fell : c.struck ≤ d.struck = never_falls tree c d x run in grind (arith, later, fell, few)
@@ -291,17 +291,17 @@ facts_space e t lent begin now facts few = by_strikes (struck_by begin.struck no
     by_strikes (inl same) = (facts.unstruck same).clean.space
     by_strikes (inr one) = (facts.struck one).space
 
--- for any core that keeps its law, and any clock that is the errand's, of a service and an input that are the errand's
+-- for any core that keeps its law, and any clock that is the errand's, of a behavior and an input that are the errand's
 module _ (e : Errand) (trusted : IsTrusted e) (laws : (phase : Phase) → (phase ≡ Guard → ⊥) → PhaseLaws e phase) (guard_struck : StruckLaw e Guard) (lost : LostLaw) (both : BothLaw e) (answered : AnsweredLaw e) where
   pub isolates_told : {S : Type 0} (gives : S → (q : Question) → Answer q → S → Type 0) (counts : S → Counts) →
       ((s : S) (q : Question) (a : Answer q) (t : S) → gives s q a t → Answered (a ≡ honestly_to q) (counts s) (counts t)) →
       (told : Option ℕ) (begin : Counts) (old new : TraversalState) (loan left : Option BucketWords) (state : State) (s t : S) →
-      TimedTwice gives told (λ now later. turn_tree (given_of e.service e.input old.space (bucket_of loan)) now later old.walk (words_of loan)) s t (turn new.walk (words_of left) state) →
+      TimedTwice gives told (λ now later. turn_tree (given_of e.behavior e.input old.space (bucket_of loan)) now later old.walk (words_of loan)) s t (turn new.walk (words_of left) state) →
       place_of left ≡ place_of loan → new.space ≡ old.space → new.steps ≡ one_more old.steps → new.walk.sealed ≡ old.walk.sealed →
       TellsAs e.clock told → LendsWanted old.walk loan → Facts e old (lent_words loan) begin (counts s) → (counts t).struck ≤ begin.struck + 1 →
       Isolates e old new loan left begin (counts t) new.walk.want state
   isolates_told gives counts law told begin old new loan left state s t turned place space steps sealed tells lends facts few =
-      let tree : PassSpace → _ = λ g. turn_tree (given_of e.service e.input g (bucket_of loan)) turned.now turned.later old.walk (words_of loan) in
+      let tree : PassSpace → _ = λ g. turn_tree (given_of e.behavior e.input g (bucket_of loan)) turned.now turned.later old.walk (words_of loan) in
       let x = turn new.walk (words_of left) state in
       let run = counted_runs gives counts law (tree old.space) s t x turned.runs in
       let fell = never_falls (tree old.space) (counts s) (counts t) x run in
@@ -311,17 +311,17 @@ module _ (e : Errand) (trusted : IsTrusted e) (laws : (phase : Phase) → (phase
       let answer_later = answer_is e.clock told turned.later trusted.clock tells turned.answer_later in
       isolates e trusted laws guard_struck lost both answered begin (counts s) (counts t) old new loan left state turned.now turned.later answer.0 answer.1 answer_later.0 answer_later.1 run_on place space steps sealed lends facts few
 
-  -- the same of a service and an input that are the errand's
+  -- the same of a behavior and an input that are the errand's
   pub isolates_given : {S : Type 0} (gives : S → (q : Question) → Answer q → S → Type 0) (counts : S → Counts) →
       ((s : S) (q : Question) (a : Answer q) (t : S) → gives s q a t → Answered (a ≡ honestly_to q) (counts s) (counts t)) →
-      (told : Option ℕ) (begin : Counts) (old new : TraversalState) (loan left : Option BucketWords) (state : State) (s t : S) (service : Service) (input : List ℕ) →
-      e.service ≡ service → e.input ≡ input →
-      TimedTwice gives told (λ now later. turn_tree (given_of service input old.space (bucket_of loan)) now later old.walk (words_of loan)) s t (turn new.walk (words_of left) state) →
+      (told : Option ℕ) (begin : Counts) (old new : TraversalState) (loan left : Option BucketWords) (state : State) (s t : S) (behavior : Behavior) (input : List ℕ) →
+      e.behavior ≡ behavior → e.input ≡ input →
+      TimedTwice gives told (λ now later. turn_tree (given_of behavior input old.space (bucket_of loan)) now later old.walk (words_of loan)) s t (turn new.walk (words_of left) state) →
       place_of left ≡ place_of loan → new.space ≡ old.space → new.steps ≡ one_more old.steps → new.walk.sealed ≡ old.walk.sealed →
       TellsAs e.clock told → LendsWanted old.walk loan → Facts e old (lent_words loan) begin (counts s) → (counts t).struck ≤ begin.struck + 1 →
       Isolates e old new loan left begin (counts t) new.walk.want state
-  isolates_given gives counts law told begin old new loan left state s t service input f h turned place space steps sealed tells lends facts few =
+  isolates_given gives counts law told begin old new loan left state s t behavior input f h turned place space steps sealed tells lends facts few =
       isolates_told gives counts law told begin old new loan left state s t
-      (subst (λ (x : Service). TimedTwice gives told (λ now later. turn_tree (given_of x e.input old.space (bucket_of loan)) now later old.walk (words_of loan)) s t (turn new.walk (words_of left) state)) (sym f)
-      (subst (λ (x : List ℕ). TimedTwice gives told (λ now later. turn_tree (given_of service x old.space (bucket_of loan)) now later old.walk (words_of loan)) s t (turn new.walk (words_of left) state)) (sym h) turned))
+      (subst (λ (x : Behavior). TimedTwice gives told (λ now later. turn_tree (given_of x e.input old.space (bucket_of loan)) now later old.walk (words_of loan)) s t (turn new.walk (words_of left) state)) (sym f)
+      (subst (λ (x : List ℕ). TimedTwice gives told (λ now later. turn_tree (given_of behavior x old.space (bucket_of loan)) now later old.walk (words_of loan)) s t (turn new.walk (words_of left) state)) (sym h) turned))
       place space steps sealed tells lends facts few

@@ -1,3 +1,4 @@
+pub mod AlikeLaws
 pub mod PassLaws
 pub mod PhaseLaws
 pub mod NoteLaws
@@ -52,3 +53,5 @@ pub mod Making
 pub mod Lift
 pub mod Resting
 pub mod PublicRuns
+pub mod PublicSteps
+pub mod Public

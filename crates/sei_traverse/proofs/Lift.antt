@@ -13,7 +13,7 @@ use Rattle.sei_fault.specs.declared.place.Times.TheVariants.{Once, Skip, Twice}
 use Rattle.sei_fault.specs.Question.{Question, Answer, honestly_to}
 use Rattle.sei_fault.specs.Tree.{Tree, Runs, bound}
 use Rattle.sei_fault.specs.Tree.Tree.{Done as Ended, Ask}
-use Rattle.sei_fault.proofs.Runs.{runs_bound, always}
+use Rattle.sei_fault.proofs.Public.{runs_bound, always}
 use Rattle.sei_log.specs.declared.log.Change.{Change}
 use Rattle.sei_log.specs.declared.notes.Notes.{Notes}
 use Rattle.sei_stmt.specs.declared.stmt.Stmt.{Stmt}
@@ -34,7 +34,7 @@ use Rattle.sei_pass.specs.Arms.{Arm, arm_at, arm_as, arm_of, asked_of, is_looped
 use Rattle.sei_pass.specs.Loop.{Here, Asks, Leads as LeadsOn, Leaves, RunsLoop}
 use Rattle.sei_pass.specs.State.{PassState}
 use Rattle.sei_pass.specs.Steps.{IsAnswer, machine_of}
-use Rattle.sei_pass.proofs.StepLaws.{made_one, is_below}
+use Rattle.sei_pass.proofs.Public.{some_answer, made_one, is_below}
 use Rattle.sei_traverse.specs.declared.turned.State.{State}
 use Rattle.sei_traverse.specs.declared.turned.State.TheVariants.{Went}
 use Rattle.sei_traverse.specs.declared.turned.Turned.{Turned}
@@ -45,7 +45,8 @@ use Rattle.sei_traverse.specs.declared.walk.Walk.{Walk}
 use Rattle.sei_traverse.specs.Acts.{acted, at, closes}
 use Rattle.sei_traverse.specs.PassActs.{with_first, with_second, first_to, second_to}
 use Rattle.sei_traverse.specs.Running.{On, on, Quiet, RunsOn, rest, begun_at, left_at}
-use Rattle.sei_traverse.specs.Service.{Service, Given, given_of, setting_in}
+use Rattle.sei_traverse.specs.Given.{Given, given_of, setting_in}
+use Rattle.sei_stmt.specs.Handling.{Behavior}
 use Rattle.sei_traverse.specs.State.{IsTraversal}
 use Rattle.sei_traverse.specs.Step.{Turn, turn, act_tree, site_of, arrival, goes, goes_on, once, turn_as, turn_at, turn_tree, TimedTwice}
 use Rattle.sei_traverse.proofs.Making.{makes_one}
@@ -85,7 +86,7 @@ with_machine Reading w m = with_second w m
 abbrev pub walk_at : Which → Walk → Want → ℕ → Machine → Walk
 walk_at which w want i m = record (with_machine which w m) { place = at (pass_phase which) i; want = want }
 
-site_at : (which : Which) (s : Service) (w : Walk) (i : ℕ) (m : Machine) → site_of s (walk_at which w Nothing i m) ≡ option_map (act_of m.registers) (slice_get s.statements i)
+site_at : (which : Which) (s : Behavior) (w : Walk) (i : ℕ) (m : Machine) → site_of s (walk_at which w Nothing i m) ≡ option_map (act_of m.registers) (slice_get s.statements i)
 site_at Making s w i m = refl
 site_at Reading s w i m = refl
 
@@ -106,6 +107,15 @@ walk_with Reading w i q log = record w { place = at Second i; want = Nothing; se
 walk_again : (which : Which) (w : Walk) (i : ℕ) (q : PassState) (words : List ℕ) (log : Kept Change) → q.space ≡ (pass_in which w).space → walk_with which w i q log ≡ walk_at which w Nothing i (machine_of q words log w.notes)
 walk_again Making w i q words log e = ap (λ (p : PassState). walk_with Making w i p log) (sym (pass_again w.first q words log w.notes e))
 walk_again Reading w i q words log e = ap (λ (p : PassState). walk_with Reading w i p log) (sym (pass_again w.second q words log w.notes e))
+
+-- the walk that the loop left in the midst of a step, at whose place it stands
+abbrev pub walk_left : Which → Walk → PassState → Kept Change → Walk
+walk_left Making w q log = record w { want = Nothing; first = q; first_log = log }
+walk_left Reading w q log = record w { want = Nothing; second = q; second_log = log }
+
+walk_is_left : (which : Which) (w : Walk) (q : PassState) (log : Kept Change) → w.place.phase ≡ pass_phase which → walk_left which w q log ≡ walk_with which w w.place.index q log
+walk_is_left Making w q log e = ap (λ (p : Phase). let v : Walk = record w { place = at p w.place.index; want = Nothing; first = q; first_log = log } in v) e
+walk_is_left Reading w q log e = ap (λ (p : Phase). let v : Walk = record w { place = at p w.place.index; want = Nothing; second = q; second_log = log } in v) e
 
 -- a place of the pass is not the end
 arrival_in : (which : Which) (i done : ℕ) → Went ≡ arrival (pass_phase which) (at (pass_phase which) i) done
@@ -160,7 +170,7 @@ module _ {S : Type 0} (gives : S → (q : Question) → Answer q → S → Type 
     abbrev setting : Setting
     setting = setting_in g which w.sealed now
 
-    as_pass : (i : ℕ) (m : Machine) (s : Stmt) (act : Act) (t : Times) (u d e : S) (x : Arm) (z : Turn) → slice_get g.service.statements i ≡ Some s → m.made < g.space.budget →
+    as_pass : (i : ℕ) (m : Machine) (s : Stmt) (act : Act) (t : Times) (u d e : S) (x : Arm) (z : Turn) → slice_get g.behavior.statements i ≡ Some s → m.made < g.space.budget →
         Runs gives (arm_as (statement_tree setting i (one_made m) s) m act t) u d x →
         Runs gives (left_asked g now later which w i x.machine x.asked) d e z → Runs gives (turn_as g now later (walk_at which w Nothing i m) m.words act t) u e z
     as_pass i m s act Once u d e x z f b r k =
@@ -189,7 +199,7 @@ module _ {S : Type 0} (gives : S → (q : Question) → Answer q → S → Type 
         let act = act_of x.machine.registers s in
         let r = arm_is (is_looped s) (arm_at setting (pass_phase which) x.index x.machine s act) x.machine x.core d (record { machine = m; asked = a }) never asks.runs in
         subst (λ (o : Option Act). Runs gives (turn_at g now later (walk_at which w Nothing x.index x.machine) x.machine.words o) x.core e z)
-        (sym (site_at which g.service w x.index x.machine ∙ ap (option_map (act_of x.machine.registers)) asks.stands))
+        (sym (site_at which g.behavior w x.index x.machine ∙ ap (option_map (act_of x.machine.registers)) asks.stands))
         (r.0, r.1, r.2, as_pass x.index x.machine s act r.0 r.1 d e (record { machine = m; asked = a }) z asks.stands asks.room r.3 k)
 
     -- a whole step of the loop
@@ -211,13 +221,68 @@ module _ {S : Type 0} (gives : S → (q : Question) → Answer q → S → Type 
         subst (λ (c : S). Runs gives (turn_tree g now later (walk_at which w want x.index x.machine) x.machine.words) c e z) h
         (subst (λ (n : Machine). Runs gives (turn_tree g now later (walk_at which w want x.index n) n.words) d e z) f k)
 
+-- One step as the loop makes it, and what is done after it, as the code has them.
+
+module _ {S : Type 0} (gives : S → (q : Question) → Answer q → S → Type 0) (told : Option ℕ) (behavior : Behavior) (input : List ℕ) (space : PassSpace) (loan mid : Option BucketWords) (which : Which) (w : Walk)
+    (q : PassState) (log : Kept Change) (stands : w.place.phase ≡ pass_phase which) (same : q.space ≡ (pass_in which w).space) (here : (pass_in which w).space ≡ space) where
+  abbrev given_now : Given
+  given_now = given_of behavior input space (bucket_of loan)
+
+  abbrev begin : S → Notes → Here S
+  begin c notes = record { machine = machine_of (pass_in which w) (words_of loan) (log_in which w) notes; index = w.place.index; core = c }
+
+  abbrev Turns : S → S → Turn → Type 0
+  Turns c f z = TimedTwice gives told (λ a b. turn_tree given_now a b w (words_of loan)) c f z
+
+  begins : (c f : S) (z : Turn) (a b : ℕ) → Runs gives (turn_tree given_now a b (walk_at which w w.want w.place.index (machine_in which w (words_of loan))) (words_of loan)) c f z → Runs gives (turn_tree given_now a b w (words_of loan)) c f z
+  begins c f z a b r = subst (λ (v : Walk). Runs gives (turn_tree given_now a b v (words_of loan)) c f z) (walk_begins which w (words_of loan) stands) r
+
+  -- it led on in the pass
+  pub step_leads : (c d : S) (to : ℕ) →
+      ((g : Setting) (notes : Notes) → g.statements ≡ behavior.statements → g.budget ≡ (pass_in which w).space.budget →
+      LeadsOn gives g (pass_phase which) (begin c notes) (record { machine = machine_of q (words_of mid) log notes; index = to; core = d })) →
+      Turns c d (turn (walk_with which w to q log) (words_of mid) Went)
+  step_leads c d to led =
+      let a = some_answer told in
+      let x = begin c w.notes in
+      let y : Here S = record { machine = machine_of q (words_of mid) log w.notes; index = to; core = d } in
+      let leads = led (setting_in given_now which w.sealed a.0) w.notes refl (ap (λ (k : PassSpace). k.budget) (sym here)) in
+      record {
+        now = a.0;
+        later = a.0;
+        answer = a.1;
+        answer_later = a.1;
+        runs =
+            subst (λ (v : Walk). Runs gives (turn_tree given_now a.0 a.0 w (words_of loan)) c d (turn v (words_of mid) Went)) (sym (walk_again which w to q (words_of mid) log same))
+            (begins c d (turn (walk_at which w Nothing to y.machine) (words_of mid) Went) a.0 a.0 (leads_turn gives given_now a.0 a.0 which w w.want x y leads));
+      }
+
+  -- it led out of the loop, and what was left of it is done
+  pub step_leaves : (c d f : S) (exit : Exit) (z : Turn) → place_of mid ≡ place_of loan →
+      ((g : Setting) (notes : Notes) → g.statements ≡ behavior.statements → g.budget ≡ (pass_in which w).space.budget →
+      Leaves gives g (pass_phase which) (begin c notes) exit (machine_of q (words_of mid) log notes) d) →
+      TimedTwice gives told (λ a b. rest (given_of behavior input space (bucket_of mid)) a b (walk_left which w q log) (words_of mid) exit) d f z →
+      Turns c f z
+  step_leaves c d f exit z placed left r =
+      let lent = subst (λ (k : Option ℕ). TimedTwice gives told (λ a b. rest (given_of behavior input space k) a b (walk_left which w q log) (words_of mid) exit) d f z) (same_bucket mid loan placed) r in
+      let on_machine = subst (λ (v : Walk). TimedTwice gives told (λ a b. rest given_now a b v (words_of mid) exit) d f z) (walk_is_left which w q log stands ∙ walk_again which w w.place.index q (words_of mid) log same) lent in
+      let leaves = left (setting_in given_now which w.sealed on_machine.now) w.notes refl (ap (λ (k : PassSpace). k.budget) (sym here)) in
+      record {
+        now = on_machine.now;
+        later = on_machine.later;
+        answer = on_machine.answer;
+        answer_later = on_machine.answer_later;
+        runs =
+            begins c f z on_machine.now on_machine.later (leaves_turn gives given_now on_machine.now on_machine.later which w w.want (begin c w.notes) exit (machine_of q (words_of mid) log w.notes) d f z leaves on_machine.runs);
+      }
+
 -- The loop, and what is done after it.
 
 module _ {S : Type 0} (gives : S → (q : Question) → Answer q → S → Type 0) (counts : S → Counts)
-    (law : (s : S) (q : Question) (a : Answer q) (t : S) → gives s q a t → Answered (a ≡ honestly_to q) (counts s) (counts t)) (told : Option ℕ) (service : Service) (input : List ℕ)
-    (space : PassSpace) (loan : Option BucketWords) (which : Which) (w : Walk) (steps : ℕ) (fits : FitsIn space (service.parsed input) w.sealed) where
+    (law : (s : S) (q : Question) (a : Answer q) (t : S) → gives s q a t → Answered (a ≡ honestly_to q) (counts s) (counts t)) (told : Option ℕ) (behavior : Behavior) (input : List ℕ)
+    (space : PassSpace) (loan : Option BucketWords) (which : Which) (w : Walk) (steps : ℕ) (fits : FitsIn space (behavior.parsed input) w.sealed) where
   abbrev given : Given
-  given = given_of service input space (bucket_of loan)
+  given = given_of behavior input space (bucket_of loan)
 
   -- the want before n steps
   abbrev want_at : ℕ → Want
@@ -229,27 +294,27 @@ module _ {S : Type 0} (gives : S → (q : Question) → Answer q → S → Type 
   on_at n x = on (record { walk = walk_at which w (want_at n) x.index x.machine; space = space; steps = min (steps + n) (2 ^ 64 - 1); running = true }) (left_in loan x.machine.words) x.core
 
   abbrev Keeps : Walk → List ℕ → Turn → Type 0
-  Keeps v words z = KeepsWalk space (service.parsed input) v words z.walk z.words
+  Keeps v words z = KeepsWalk space (behavior.parsed input) v words z.walk z.words
 
   -- what is lent to the step, and what of it is left
   turns_from : (v : Walk) (words : List ℕ) (c d : S) (z : Turn) → length words ≡ length (words_of loan) → TimedTwice gives told (λ a b. turn_tree given a b v words) c d z →
-      TimedTwice gives told (λ a b. turn_tree (given_of service input space (bucket_of (left_in loan words))) a b v (words_of (left_in loan words))) c d z
+      TimedTwice gives told (λ a b. turn_tree (given_of behavior input space (bucket_of (left_in loan words))) a b v (words_of (left_in loan words))) c d z
   turns_from v words c d z e r =
-      subst (λ (k : Option ℕ). TimedTwice gives told (λ a b. turn_tree (given_of service input space k) a b v (words_of (left_in loan words))) c d z) (sym (left_bucket loan words))
+      subst (λ (k : Option ℕ). TimedTwice gives told (λ a b. turn_tree (given_of behavior input space k) a b v (words_of (left_in loan words))) c d z) (sym (left_bucket loan words))
       (subst (λ (ws : List ℕ). TimedTwice gives told (λ a b. turn_tree given a b v ws) c d z) (sym (left_words loan words e)) r)
 
   -- as many words as were lent are left
   turns_long : (v : Walk) (words : List ℕ) (c d : S) (z : Turn) → length words ≡ length (words_of loan) → TimedTwice gives told (λ a b. turn_tree given a b v words) c d z → length z.words ≡ length (words_of loan)
   turns_long v words c d z e r =
-      (always gives (Keeps v words) (turn_tree given r.now r.later v words) c d z (turn_kept space (service.parsed input) v words given refl refl r.now r.later) r.runs).long ∙ e
+      (always gives (Keeps v words) (turn_tree given r.now r.later v words) c d z (turn_kept space (behavior.parsed input) v words given refl refl r.now r.later) r.runs).long ∙ e
 
   record Stands (n : ℕ) (start x : Here S) : Type 0 where
-    chain : Chain (Quiet gives counts told service input) n (on_at 0 start) (on_at n x)
+    chain : Chain (Quiet gives counts told behavior input) n (on_at 0 start) (on_at n x)
     rooms : IsTraversal (on_at n x).traversal
     long : length x.machine.words ≡ length (words_of loan)
 
-  fits_at : (n : ℕ) (x : Here S) → FitsIn space (service.parsed input) (walk_at which w (want_at n) x.index x.machine).sealed
-  fits_at n x = subst (λ s. FitsIn space (service.parsed input) s) (sealed_at which w (want_at n) x.index x.machine) fits
+  fits_at : (n : ℕ) (x : Here S) → FitsIn space (behavior.parsed input) (walk_at which w (want_at n) x.index x.machine).sealed
+  fits_at n x = subst (λ s. FitsIn space (behavior.parsed input) s) (sealed_at which w (want_at n) x.index x.machine) fits
 
   module _ (now : ℕ) (answer : IsAnswer told now) where
     -- a whole step of the loop is a quiet one
@@ -262,7 +327,7 @@ module _ {S : Type 0} (gives : S → (q : Question) → Answer q → S → Type 
         let long = turns_long from x.machine.words x.core y.core (turn to y.machine.words Went) s.long bare in
         let turned = turns_from from x.machine.words x.core y.core (turn to (words_of (left_in loan y.machine.words)) Went) s.long
         (subst (λ (ws : List ℕ). TimedTwice gives told (λ a b. turn_tree given a b from x.machine.words) x.core y.core (turn to ws Went)) (sym (left_words loan y.machine.words long)) bare) in
-        let makes = makes_one gives counts law told service input (on_at n x) (on_at (suc n) y) (record { want = Nothing; state = Went }) turned refl (left_place loan y.machine.words ∙ sym (left_place loan x.machine.words))
+        let makes = makes_one gives counts law told behavior input (on_at n x) (on_at (suc n) y) (record { want = Nothing; state = Went }) turned refl (left_place loan y.machine.words ∙ sym (left_place loan x.machine.words))
         refl (omega arith) refl s.rooms (fits_at n x) in
         record { chain = (on_at n x, s.chain, makes); rooms = makes.rooms; long = long }
 
@@ -283,7 +348,7 @@ module _ {S : Type 0} (gives : S → (q : Question) → Answer q → S → Type 
       IsTraversal (begun_at w space steps) → place_of left ≡ place_of loan → t.want ≡ u.want →
       (r : TimedTwice gives told (λ a b. rest given a b (walk_at which w Nothing i m) m.words exit) d f (turn u (words_of left) t.state)) →
       RunsLoop gives (setting_in given which w.sealed r.now) (pass_phase which) n i (record { machine = machine_in which w (words_of loan); index = w.place.index; core = c }) exit m d →
-      RunsOn gives counts told service input n (on (begun_at w space steps) loan c)
+      RunsOn gives counts told behavior input n (on (begun_at w space steps) loan c)
       (on (left_at u space steps (record { before = n; turned = t })) left f) t
   runs_on c d f n i exit m u left t e small is same wanted r l =
       let start : Here S = record { machine = machine_in which w (words_of loan); index = w.place.index; core = c } in
@@ -294,29 +359,29 @@ module _ {S : Type 0} (gives : S → (q : Question) → Answer q → S → Type 
       let from = walk_at which w (want_at n) i l.machine in
       let bare : TimedTwice gives told (λ a b. turn_tree given a b from l.machine.words) l.then f (turn u (words_of left) t.state) =
       record { now = r.now; later = r.later; answer = r.answer; answer_later = r.answer_later; runs = leaves_turn gives given r.now r.later which w (want_at n) end exit m d f (turn u (words_of left) t.state) l.leaves r.runs } in
-      subst (λ (x : On S). RunsOn gives counts told service input n x (on (left_at u space steps (record { before = n; turned = t })) left f) t) begins (record {
+      subst (λ (x : On S). RunsOn gives counts told behavior input n x (on (left_at u space steps (record { before = n; turned = t })) left f) t) begins (record {
         last = on_at n end;
         chain = stands.chain;
-        makes = makes_one gives counts law told service input (on_at n end) (on (left_at u space steps (record { before = n; turned = t })) left f) t
+        makes = makes_one gives counts law told behavior input (on_at n end) (on (left_at u space steps (record { before = n; turned = t })) left f) t
             (turns_from from l.machine.words l.then f (turn u (words_of left) t.state) stands.long bare) wanted (same ∙ sym (left_place loan l.machine.words)) refl (omega arith) refl stands.rooms (fits_at n end);
       })
 
   -- the same, as the code has it
   pub run_pass : (c d f : S) (n i : ℕ) (exit : Exit) (q : PassState) (log : Kept Change) (mid : Option BucketWords) (u : Walk) (left : Option BucketWords) (t : Turned) → w.place.phase ≡ pass_phase which → steps < 2 ^ 64 →
       IsTraversal (begun_at w space steps) → q.space ≡ (pass_in which w).space → (pass_in which w).space ≡ space → place_of mid ≡ place_of loan → place_of left ≡ place_of mid → t.want ≡ u.want →
-      ((g : Setting) (notes : Notes) → g.statements ≡ service.statements → g.budget ≡ (pass_in which w).space.budget →
+      ((g : Setting) (notes : Notes) → g.statements ≡ behavior.statements → g.budget ≡ (pass_in which w).space.budget →
       RunsLoop gives g (pass_phase which) n i (record { machine = machine_of (pass_in which w) (words_of loan) (log_in which w) notes; index = w.place.index; core = c }) exit (machine_of q (words_of mid) log notes) d) →
-      TimedTwice gives told (λ a b. rest (given_of service input space (bucket_of mid)) a b (walk_with which w i q log) (words_of mid) exit) d f (turn u (words_of left) t.state) →
-      RunsOn gives counts told service input n (on (begun_at w space steps) loan c) (on (left_at u space steps (record { before = n; turned = t })) left f) t
+      TimedTwice gives told (λ a b. rest (given_of behavior input space (bucket_of mid)) a b (walk_with which w i q log) (words_of mid) exit) d f (turn u (words_of left) t.state) →
+      RunsOn gives counts told behavior input n (on (begun_at w space steps) loan c) (on (left_at u space steps (record { before = n; turned = t })) left f) t
   run_pass c d f n i exit q log mid u left t e small is same here placed last wanted ran r =
       let z = turn u (words_of left) t.state in
-      let lent = subst (λ (k : Option ℕ). TimedTwice gives told (λ a b. rest (given_of service input space k) a b (walk_with which w i q log) (words_of mid) exit) d f z) (same_bucket mid loan placed) r in
+      let lent = subst (λ (k : Option ℕ). TimedTwice gives told (λ a b. rest (given_of behavior input space k) a b (walk_with which w i q log) (words_of mid) exit) d f z) (same_bucket mid loan placed) r in
       let on_machine = subst (λ (v : Walk). TimedTwice gives told (λ a b. rest given a b v (words_of mid) exit) d f z) (walk_again which w i q (words_of mid) log same) lent in
       runs_on c d f n i exit (machine_of q (words_of mid) log w.notes) u left t e (omega (arith, small)) is (last ∙ placed) wanted on_machine
       (ran (setting_in given which w.sealed on_machine.now) w.notes refl (ap (λ (k : PassSpace). k.budget) (sym here)))
 
 -- the same of other names for where it begins and ends
-pub run_counted : {S : Type 0} (gives : S → (q : Question) → Answer q → S → Type 0) (counts : S → Counts) (told : Option ℕ) (service : Service) (input : List ℕ) (n : ℕ) (x y z u : On S) (t : Turned) →
-    x ≡ y → z ≡ u → RunsOn gives counts told service input n x z t → RunsOn gives counts told service input n y u t
-run_counted {S} gives counts told service input n x y z u t e f r =
-    subst (λ (a : On S). RunsOn gives counts told service input n a u t) e (subst (λ (b : On S). RunsOn gives counts told service input n x b t) f r)
+pub run_counted : {S : Type 0} (gives : S → (q : Question) → Answer q → S → Type 0) (counts : S → Counts) (told : Option ℕ) (behavior : Behavior) (input : List ℕ) (n : ℕ) (x y z u : On S) (t : Turned) →
+    x ≡ y → z ≡ u → RunsOn gives counts told behavior input n x z t → RunsOn gives counts told behavior input n y u t
+run_counted {S} gives counts told behavior input n x y z u t e f r =
+    subst (λ (a : On S). RunsOn gives counts told behavior input n a u t) e (subst (λ (b : On S). RunsOn gives counts told behavior input n x b t) f r)

@@ -38,6 +38,7 @@ module _ (e : Errand) (w v : Walk) (l : IsLike w v) where
     made = a.made;
     noted = ap (λ (n : Notes). n.now) l.notes ∙ a.noted;
     small = a.small;
+    told = a.told;
     run = a.run;
     words_are = a.words_are;
     reply = ap (λ (p : PassState). p.bytes.items) l.second ∙ a.reply;

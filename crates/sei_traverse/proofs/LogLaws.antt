@@ -7,19 +7,19 @@ use Rattle.sei_log.specs.Changes.{change_of}
 use Rattle.sei_log.specs.declared.log.Change.{Change}
 use Rattle.sei_fault.specs.declared.cause.AbortCause.{AbortCause}
 use Rattle.sei_fault.specs.Tree.{honest}
-use Rattle.sei_fault.proofs.Runs.{always_honest}
+use Rattle.sei_fault.proofs.Public.{always_honest}
 use Rattle.sei_restore.specs.Undoing.{LeadsTo, undo_at, restored}
-use Rattle.sei_restore.proofs.UndoLaws.{stays_inside}
+use Rattle.sei_restore.proofs.Public.{stays_inside}
 use Rattle.sei_stmt.specs.declared.stmt.Stmt.{Stmt}
 use Rattle.sei_stmt.specs.Machine.{Machine, Setting, After, one_made}
 use Rattle.sei_stmt.specs.Handling.{parsed_words}
 use Rattle.sei_stmt.specs.Honest.{after}
 use Rattle.sei_stmt.specs.Sound.{RisesFrom}
 use Rattle.sei_stmt.specs.Statements.{statement_tree, step_tree}
-use Rattle.sei_stmt.proofs.Effects.{HonestEffect, keeps_honest}
-use Rattle.sei_stmt.proofs.Effects.HonestEffect.{Left, Changed}
+use Rattle.sei_stmt.proofs.Public.{HonestEffect, keeps_honest}
+use Rattle.sei_stmt.proofs.PublicEffects.HonestEffect.{Left, Changed}
 use Rattle.sei_stmt.proofs.PublicStatementEnds.{IsKeptBy, by_statement, step_keeps, all_along}
-use Rattle.sei_pass.proofs.RoomLaws.{Keeps, keeps}
+use Rattle.sei_pass.proofs.Public.{Keeps, keeps}
 
 -- Words that a log leads to.
 

@@ -10,7 +10,7 @@ use Rattle.sei_fault.specs.declared.place.Phase.{Phase}
 use Rattle.sei_fault.specs.declared.place.Phase.TheVariants.{Guard, Take, First, Restore, Second, Compare, Verify, Enter, Give, Send, Done}
 use Rattle.sei_fault.specs.Phases.{phase_number}
 use Rattle.sei_fault.specs.Tree.{Tree, honest, bound}
-use Rattle.sei_fault.proofs.Bound.{honest_bound}
+use Rattle.sei_fault.proofs.Public.{honest_bound}
 use Rattle.sei_gate.specs.Closing.{risen}
 use Rattle.sei_pass.specs.declared.given.Which.TheVariants.{Making, Reading}
 use Rattle.sei_pass.specs.Setting.{is_intact}
@@ -25,7 +25,7 @@ use Rattle.sei_traverse.specs.declared.walk.Walk.{Walk}
 use Rattle.sei_traverse.specs.Acts.{Acted, acted, ends, at, closed_to, closing_then, closes}
 use Rattle.sei_traverse.specs.PassActs.{first_machine, second_machine, with_first, with_second, first_from, first_to, second_from, second_to}
 use Rattle.sei_traverse.specs.Phases.{guard_call, take_wanted, store_wanted, undone_as, undone_to, compared, entries_to, outputs_to, word_to, copy_bytes, wire_to, verify_copy, send_want, reply_of}
-use Rattle.sei_traverse.specs.Service.{Given, has_sealed_call, setting_in}
+use Rattle.sei_traverse.specs.Given.{Given, has_sealed_call, setting_in}
 use Rattle.sei_traverse.specs.Step.{act_in}
 use Rattle.sei_traverse.proofs.Branches.{other}
 

@@ -8,7 +8,7 @@ use Rattle.sei_fault.specs.declared.place.Phase.{Phase}
 use Rattle.sei_fault.specs.declared.place.Phase.TheVariants.{Guard, Done}
 use Rattle.sei_fault.specs.Phases.{phase_number}
 use Rattle.sei_fault.specs.Tree.{honest}
-use Rattle.sei_fault.proofs.Bound.{honest_bound}
+use Rattle.sei_fault.proofs.Public.{honest_bound}
 use Rattle.sei_words.specs.Loan.{words_of}
 use Rattle.sei_words.specs.Words.{BucketWords}
 use Rattle.sei_traverse.specs.declared.turned.State.TheVariants.{Went, Finished}

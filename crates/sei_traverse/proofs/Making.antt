@@ -3,12 +3,13 @@ use Rattle.std.proofs.Common.{◌≡◌, ℕ, List, Option, refl, sym, ◌∙◌
 use Rattle.sei_fault.specs.Counts.{Counts, Answered}
 use Rattle.sei_fault.specs.Question.{Question, Answer, honestly_to}
 use Rattle.sei_fault.specs.Tree.{Tree}
-use Rattle.sei_fault.proofs.Runs.{always}
+use Rattle.sei_fault.proofs.Public.{always}
 use Rattle.sei_words.specs.Loan.{words_of, bucket_of, place_of}
 use Rattle.sei_traverse.specs.declared.turned.State.{State}
 use Rattle.sei_traverse.specs.declared.turned.Turned.{Turned}
 use Rattle.sei_traverse.specs.Running.{On, Makes}
-use Rattle.sei_traverse.specs.Service.{Service, Given, given_of}
+use Rattle.sei_traverse.specs.Given.{Given, given_of}
+use Rattle.sei_stmt.specs.Handling.{Behavior}
 use Rattle.sei_traverse.specs.State.{IsTraversal, one_more, is_running}
 use Rattle.sei_traverse.specs.Step.{Turn, turn, turn_tree, TimedTwice}
 use Rattle.sei_traverse.proofs.CountLaws.{asked_turned, struck_turned}
@@ -16,9 +17,9 @@ use Rattle.sei_traverse.proofs.NotingLaws.{notes_time}
 use Rattle.sei_traverse.proofs.PublicWalkKept.{KeepsWalk, FitsIn, turn_kept}
 
 module _ {S : Type 0} (gives : S → (q : Question) → Answer q → S → Type 0) (counts : S → Counts)
-    (law : (s : S) (q : Question) (a : Answer q) (t : S) → gives s q a t → Answered (a ≡ honestly_to q) (counts s) (counts t)) (told : Option ℕ) (service : Service) (input : List ℕ) where
+    (law : (s : S) (q : Question) (a : Answer q) (t : S) → gives s q a t → Answered (a ≡ honestly_to q) (counts s) (counts t)) (told : Option ℕ) (behavior : Behavior) (input : List ℕ) where
   abbrev pub given_at : On S → Given
-  given_at x = given_of service input x.traversal.space (bucket_of x.lent)
+  given_at x = given_of behavior input x.traversal.space (bucket_of x.lent)
 
   -- a step of the definition that ends in this state
   abbrev pub Turns : On S → On S → State → Type 0
@@ -26,17 +27,17 @@ module _ {S : Type 0} (gives : S → (q : Question) → Answer q → S → Type 
       TimedTwice gives told (λ now later. turn_tree (given_at x) now later x.traversal.walk (words_of x.lent)) x.core y.core (turn y.traversal.walk (words_of y.lent) state)
 
   abbrev pub KeepsOn : On S → On S → Type 0
-  KeepsOn x y = KeepsWalk x.traversal.space (service.parsed input) x.traversal.walk (words_of x.lent) y.traversal.walk (words_of y.lent)
+  KeepsOn x y = KeepsWalk x.traversal.space (behavior.parsed input) x.traversal.walk (words_of x.lent) y.traversal.walk (words_of y.lent)
 
   pub turns_keeps : (x y : On S) (state : State) → Turns x y state → KeepsOn x y
   turns_keeps x y state turned =
-      always gives (λ (z : Turn). KeepsWalk x.traversal.space (service.parsed input) x.traversal.walk (words_of x.lent) z.walk z.words)
+      always gives (λ (z : Turn). KeepsWalk x.traversal.space (behavior.parsed input) x.traversal.walk (words_of x.lent) z.walk z.words)
       (turn_tree (given_at x) turned.now turned.later x.traversal.walk (words_of x.lent)) x.core y.core (turn y.traversal.walk (words_of y.lent) state)
-      (turn_kept x.traversal.space (service.parsed input) x.traversal.walk (words_of x.lent) (given_at x) refl refl turned.now turned.later) turned.runs
+      (turn_kept x.traversal.space (behavior.parsed input) x.traversal.walk (words_of x.lent) (given_at x) refl refl turned.now turned.later) turned.runs
 
   pub makes_one : (x y : On S) (t : Turned) → Turns x y t.state → t.want ≡ y.traversal.walk.want → place_of y.lent ≡ place_of x.lent → y.traversal.space ≡ x.traversal.space →
-      y.traversal.steps ≡ one_more x.traversal.steps → y.traversal.running ≡ is_running t.state → IsTraversal x.traversal → FitsIn x.traversal.space (service.parsed input) x.traversal.walk.sealed →
-      Makes gives counts told service input x y t
+      y.traversal.steps ≡ one_more x.traversal.steps → y.traversal.running ≡ is_running t.state → IsTraversal x.traversal → FitsIn x.traversal.space (behavior.parsed input) x.traversal.walk.sealed →
+      Makes gives counts told behavior input x y t
   makes_one x y t turned want lent space steps running is fits =
       let kept = turns_keeps x y t.state turned in
       let tree : ℕ → ℕ → Tree Turn = λ now later. turn_tree (given_at x) now later x.traversal.walk (words_of x.lent) in

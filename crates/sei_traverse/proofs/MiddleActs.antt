@@ -17,15 +17,15 @@ use Rattle.sei_fault.specs.declared.place.Act.TheVariants.{Plain}
 use Rattle.sei_fault.specs.declared.place.Phase.TheVariants.{Restore, Second, Compare, Verify, Enter}
 use Rattle.sei_fault.specs.Phases.{phase_number}
 use Rattle.sei_fault.specs.Tree.{Tree, honest, bound}
-use Rattle.sei_fault.proofs.Bound.{honest_bound}
+use Rattle.sei_fault.proofs.Public.{honest_bound}
 use Rattle.sei_stmt.specs.Machine.{Machine, After}
 use Rattle.sei_stmt.specs.Handling.{refilled}
 use Rattle.sei_stmt.specs.Sound.{RisesFrom}
 use Rattle.sei_pass.specs.State.{PassState, new_pass}
 use Rattle.sei_restore.specs.Undoing.{LeadsTo, Undone, undo_at, restored}
-use Rattle.sei_restore.proofs.UndoLaws.{restores}
+use Rattle.sei_restore.proofs.Public.{restores}
 use Rattle.sei_compare.specs.Comparing.{same_change, entry_tree, word_at, word_outcome, same_reply, codes_tree, is_message, wire_tree}
-use Rattle.sei_compare.proofs.CompareLaws.{same_change-same, word_at-honest, word_outcome-same, same_reply-same, is_message-same}
+use Rattle.sei_compare.proofs.Public.{same_change-same, word_at-honest, word_outcome-same, same_reply-same, is_message-same}
 use Rattle.sei_pass.specs.declared.given.Sealed.{Sealed}
 use Rattle.sei_traverse.specs.declared.turned.Want.TheVariants.{Nothing}
 use Rattle.sei_traverse.specs.declared.walk.Ending.TheVariants.{Leads}
@@ -97,7 +97,7 @@ module _ (w : Walk) (words : List ℕ) (index : ℕ) where
       ap (λ (b : Bool). honest (undoing w.first_log.items b)) (not_below index (length w.first_log.items) h) ∙ closes_in_turn Restore w words (at Second 0) e
 
 module _ (e : Errand) (now : ℕ) (w : Walk) (steps asked time made : ℕ) (end : Machine) (want : w.want ≡ Nothing) (whole : Whole e time made end) where
-  undoes_one : IsOf e w Restore → w.place.index < length end.log.items → steps ≤ before_restore made + w.place.index → asked ≡ first_questions e time made →
+  undoes_one : IsOf e w Restore → w.place.index < length end.log.items → steps ≤ before_restore made + w.place.index → first_questions e time made ≤ asked →
       GoesOn e (given_in e) now Restore (in_restore e w end) (restored end.log.items end.words w.place.index) Some steps asked
   undoes_one is h number questions =
       let next : suc w.place.index ≡ w.place.index + 1 = omega arith in
@@ -128,7 +128,7 @@ module _ (e : Errand) (now : ℕ) (w : Walk) (steps asked time made : ℕ) (end 
         };
       }
 
-  undoes_last : IsOf e w Restore → w.place.index ≡ length end.log.items → steps ≤ before_restore made + w.place.index → asked ≡ first_questions e time made →
+  undoes_last : IsOf e w Restore → w.place.index ≡ length end.log.items → steps ≤ before_restore made + w.place.index → first_questions e time made ≤ asked →
       GoesOn e (given_in e) now Restore (in_restore e w end) (restored end.log.items end.words w.place.index) Some steps asked
   undoes_last is h number questions =
       let words : List ℕ = restored end.log.items end.words w.place.index in

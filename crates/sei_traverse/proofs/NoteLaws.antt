@@ -5,19 +5,21 @@ use Rattle.std.proofs.lemmas.Bool.{eq-eqb, eqb-true, ltb-true, and_parts}
 use Rattle.sei_code.specs.Coded.{sealed, read_of, complement}
 use Rattle.sei_code.specs.declared.coded.Coded.{Coded}
 use Rattle.sei_log.specs.declared.notes.Notes.{Notes}
-use Rattle.sei_fault.specs.Tree.{Tree, honest, questions, Always}
+use Rattle.sei_fault.specs.Tree.{Tree, honest, Always}
+use Rattle.sei_fault.specs.Weights.{weighed}
 use Rattle.sei_fault.specs.Tree.Tree.{Ask}
 use Rattle.sei_fault.specs.Question.Question.{Value, Test}
-use Rattle.sei_fault.proofs.Runs.{always_honest}
+use Rattle.sei_fault.proofs.Public.{always_honest}
 use Rattle.sei_stmt.specs.declared.stmt.Stmt.{Stmt}
 use Rattle.sei_stmt.specs.declared.stmt.Stmt.TheVariants.{Input, Emit, Now, Alloc, Parse, Render, Halt}
 use Rattle.sei_stmt.specs.Machine.{Machine, Setting, Outcome, After, register, time_noted, slot_noted, one_made, assign}
 use Rattle.sei_stmt.specs.Machine.Outcome.{Next, Halted, Bad}
 use Rattle.sei_stmt.specs.Statements.{noted_value, noted_now, told_now, now_by, now_tree, fit_if, noted_slot_value, noted_slot, lowest_slot, alloc_by, alloc_tree, statement_tree, step_tree}
 use Rattle.sei_stmt.specs.Slots.{lowest_free, is_admissible}
-use Rattle.sei_stmt.specs.Honest.{after, onward, onward_from, asked_in, asked_after, HonestRun}
+use Rattle.sei_stmt.specs.Honest.{after, onward, onward_from, HonestRun}
+use Rattle.sei_stmt.specs.Weights.{weighed_in, weighed_after}
 use Rattle.sei_stmt.specs.Order.{timed, slotted, finished, only, stage_behind, stage_behind_found, stage_onward, stage_after}
-use Rattle.sei_stmt.proofs.TieLaws.{lowest_admissible}
+use Rattle.sei_stmt.proofs.Public.{lowest_admissible}
 use Rattle.sei_stmt.proofs.PublicStatementEnds.{IsNow, now_or_not, statement_keeps, by_statement}
 use Rattle.sei_stmt.proofs.PublicStatementRuns.{looks, Repeats, plain_repeats, store_repeats, by_statements}
 use Rattle.sei_stmt.proofs.PublicStatementRuns.Looks.{Stores, Times, Slots, Neither}
@@ -96,7 +98,7 @@ has_more a b c h k = record { now = λ n e. h.now n (k.now n e); slot = λ n e. 
 -- the step of the second pass ends honestly as that of the first, but for the notes, and asks no fewer questions
 record Follows (notes : Notes) (first second : Tree After) : Type 0 where
   ended : honest second ≡ renoted_end notes (honest first)
-  asked : questions first ≤ questions second
+  asked : weighed first ≤ weighed second
 
 follows_now : (g : Setting) (k : Notes) (i : ℕ) (m : Machine) (to : ℕ) → g.reading ≡ false → Has k (honest (now_tree g i m to)).machine.notes →
     Follows k (now_tree g i m to) (now_tree (again g) i (renoted k m) to)
@@ -105,8 +107,8 @@ follows_now g k i m to first has =
     let noted : k.now ≡ Some (sealed g.now) = has.now (sealed g.now) (ap (λ (t : Tree After). (honest t).machine.notes.now) one) in
     let two : now_tree (again g) i (renoted k m) to ≡ Ask (Value g.now) (λ v. assign i (renoted k m) to v) =
     ap (λ o. noted_now i (renoted k m) to o) noted ∙ ap (λ o. noted_value i (renoted k m) to o) (read_sealed g.now) in
-    let before : questions (now_tree g i m to) ≡ 2 = ap (λ (t : Tree After). questions t) one in
-    let behind : questions (now_tree (again g) i (renoted k m) to) ≡ 2 = ap (λ (t : Tree After). questions t) two in
+    let before : weighed (now_tree g i m to) ≡ 2 = ap (λ (t : Tree After). weighed t) one in
+    let behind : weighed (now_tree (again g) i (renoted k m) to) ≡ 2 = ap (λ (t : Tree After). weighed t) two in
     record {
       ended = ap (λ (t : Tree After). honest t) two ∙ sym (ap (λ (t : Tree After). renoted_end k (honest t)) one);
       asked = omega (arith, before, behind);
@@ -124,8 +126,8 @@ follows_alloc g k i m to moment first has =
     ap (λ o. noted_slot (again g) i (renoted k m) to t o) noted ∙ ap (λ o. noted_slot_value (again g) i (renoted k m) to t o) (read_sealed slot) in
     let two : noted_slot (again g) i (renoted k m) to t k.slot ≡ Ask (Test true) (λ fit. fit_if fit i (renoted k m) to slot) =
     tested ∙ ap (λ b. Ask (Test b) (λ fit. fit_if fit i (renoted k m) to slot)) (lowest_admissible g m.words t) in
-    let before : questions (alloc_tree g i m to moment) ≡ 3 = ap (λ (t : Tree After). questions t) one in
-    let behind : questions (alloc_tree (again g) i (renoted k m) to moment) ≡ 4 = ap (λ (t : Tree After). 1 + questions t) two in
+    let before : weighed (alloc_tree g i m to moment) ≡ 3 = ap (λ (t : Tree After). weighed t) one in
+    let behind : weighed (alloc_tree (again g) i (renoted k m) to moment) ≡ 4 = ap (λ (t : Tree After). 1 + weighed t) two in
     record {
       ended = ap (λ (t : Tree After). honest t) two ∙ sym (ap (λ (t : Tree After). renoted_end k (honest t)) one);
       asked = omega (arith, before, behind);
@@ -150,7 +152,7 @@ onward_follows g k m (Next i) first has = (follows_step g k i m first has).ended
 onward_follows g k m Halted first has = refl
 onward_follows g k m (Bad cause) first has = refl
 
-asked_follows : (g : Setting) (k : Notes) (m : Machine) (o : Outcome) → g.reading ≡ false → Has k (onward_from g m o).machine.notes → asked_in g m o ≤ asked_in (again g) (renoted k m) o
+asked_follows : (g : Setting) (k : Notes) (m : Machine) (o : Outcome) → g.reading ≡ false → Has k (onward_from g m o).machine.notes → weighed_in g m o ≤ weighed_in (again g) (renoted k m) o
 asked_follows g k m (Next i) first has = (follows_step g k i m first has).asked
 asked_follows g k m Halted first has = omega arith
 asked_follows g k m (Bad cause) first has = omega arith
@@ -304,10 +306,10 @@ module _ (g : Setting) (start : Machine) (first : g.reading ≡ false) (blank : 
         ∙ onward_follows g end.notes (after g start n).machine (after g start n).outcome first (has_end (suc n) le)
 
     -- and asks no fewer questions
-    pub repeats_asked : (n : ℕ) → n ≤ steps → asked_after g start n ≤ asked_after (again g) (renoted end.notes start) n
+    pub repeats_asked : (n : ℕ) → n ≤ steps → weighed_after g start n ≤ weighed_after (again g) (renoted end.notes start) n
     repeats_asked zero le = omega arith
     repeats_asked (suc n) le =
-        let same : asked_in (again g) (after (again g) (renoted end.notes start) n).machine (after (again g) (renoted end.notes start) n).outcome
-        ≡ asked_in (again g) (renoted end.notes (after g start n).machine) (after g start n).outcome =
-        ap (λ (x : After). asked_in (again g) x.machine x.outcome) (repeats n (omega (arith, le))) in
+        let same : weighed_in (again g) (after (again g) (renoted end.notes start) n).machine (after (again g) (renoted end.notes start) n).outcome
+        ≡ weighed_in (again g) (renoted end.notes (after g start n).machine) (after g start n).outcome =
+        ap (λ (x : After). weighed_in (again g) x.machine x.outcome) (repeats n (omega (arith, le))) in
         omega (arith, same, repeats_asked n (omega (arith, le)), asked_follows g end.notes (after g start n).machine (after g start n).outcome first (has_end (suc n) le))

@@ -14,7 +14,7 @@ use Rattle.sei_fault.specs.declared.place.Times.{Times}
 use Rattle.sei_fault.specs.declared.place.Times.TheVariants.{Once, Skip, Twice}
 use Rattle.sei_fault.specs.Question.{Question, Answer}
 use Rattle.sei_fault.specs.Tree.{Tree, bound, Always}
-use Rattle.sei_fault.proofs.Runs.{always, always_map}
+use Rattle.sei_fault.proofs.Public.{always, always_map}
 use Rattle.sei_gate.specs.Closing.{risen}
 use Rattle.sei_stmt.specs.declared.stmt.Stmt.{Stmt}
 use Rattle.sei_stmt.specs.declared.stmt.Stmt.TheVariants.{Now}
@@ -37,7 +37,7 @@ use Rattle.sei_traverse.specs.Noting.{NotesTime}
 use Rattle.sei_traverse.specs.Noting.NotesTime.{Same, Noted}
 use Rattle.sei_traverse.specs.PassActs.{first_machine, second_machine, with_first, with_second, first_from, first_to, first_tree, second_from, second_to, second_tree}
 use Rattle.sei_traverse.specs.Phases.{guard_call, store_wanted, take_wanted, undone_as, undone_to, compared, entries_to, outputs_to, word_to, reply_of, copy_bytes, wire_to, verify_copy, send_want}
-use Rattle.sei_traverse.specs.Service.{Given, setting_in}
+use Rattle.sei_traverse.specs.Given.{Given, setting_in}
 use Rattle.sei_traverse.specs.Step.{Turn, turn, act_in, act_tree, site_of, goes, goes_on, once, unless_ended, twice, turn_as, turn_at, turn_tree, TimedTwice}
 use Rattle.sei_traverse.proofs.StepsBound.{always_bound, always_any}
 use Rattle.sei_traverse.proofs.NoteLaws.{Leaves, leaves}
@@ -236,4 +236,4 @@ module _ (told : Option ℕ) where
   notes_time gives g w v words left state s t turned =
       let from : Walk = record w { want = Nothing } in
       always gives (NotesOn w) (turn_tree g turned.now turned.later w words) s t (turn v left state)
-      (turn_notes g turned.now turned.later from words (site_of g.service from) turned.answer turned.answer_later) turned.runs
+      (turn_notes g turned.now turned.later from words (site_of g.behavior from) turned.answer turned.answer_later) turned.runs

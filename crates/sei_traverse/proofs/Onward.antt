@@ -7,9 +7,9 @@ use Rattle.sei_fault.specs.declared.place.Place.{Place}
 use Rattle.sei_fault.specs.declared.place.Phase.{Phase}
 use Rattle.sei_fault.specs.declared.place.Phase.TheVariants.{Guard, Take, First, Restore, Second, Compare, Verify, Enter, Give, Send, Done}
 use Rattle.sei_fault.specs.Question.{Question, Answer, honestly_to}
-use Rattle.sei_fault.specs.Tree.{Runs, any_core, honest, questions}
-use Rattle.sei_fault.proofs.Runs.{counted_runs}
-use Rattle.sei_fault.proofs.Strikes.{grows, never_falls}
+use Rattle.sei_fault.specs.Tree.{Runs, any_core, honest}
+use Rattle.sei_fault.specs.Weights.{weighed}
+use Rattle.sei_fault.proofs.Public.{counted_runs, grows, never_falls}
 use Rattle.sei_pass.specs.Steps.{IsAnswer}
 use Rattle.sei_words.specs.Loan.{words_of, bucket_of, place_of}
 use Rattle.sei_words.specs.Words.{BucketWords}
@@ -20,7 +20,8 @@ use Rattle.sei_traverse.specs.declared.walk.Walk.{Walk}
 use Rattle.sei_traverse.specs.Acts.{at}
 use Rattle.sei_traverse.specs.Errand.{Errand, IsErrand, TellsTime, Follows, given_in}
 use Rattle.sei_traverse.specs.OnWay.{lent_words, Lends, TellsAs, IsClean, OnWay, IsCleanEnd, OnWayAfter, StaysOnWay, IsUnfit}
-use Rattle.sei_traverse.specs.Service.{Service, Given, given_of, FailsGuard}
+use Rattle.sei_traverse.specs.Given.{Given, given_of, FailsGuard}
+use Rattle.sei_stmt.specs.Handling.{Behavior}
 use Rattle.sei_traverse.specs.State.{TraversalState, one_more}
 use Rattle.sei_traverse.specs.Step.{Turn, turn, turn_tree, TimedTwice}
 use Rattle.sei_traverse.specs.Unstruck.{want_in, NextIn, CleanIn, IsFinished}
@@ -39,7 +40,7 @@ left_of None words = None
 left_of (Some b) words = Some words
 
 abbrev pub given_with : Errand → Option BucketWords → Given
-given_with e loan = given_of e.service e.input e.space (bucket_of loan)
+given_with e loan = given_of e.behavior e.input e.space (bucket_of loan)
 
 abbrev pub ActsOn : Errand → ℕ → Walk → Option BucketWords → ℕ → ℕ → Phase → Type 0
 ActsOn e now w loan steps asked p =
@@ -49,7 +50,7 @@ ActsOn e now w loan steps asked p =
 of_bucket : (e : Errand) (now : ℕ) (w : Walk) (b : BucketWords) (steps asked : ℕ) (p : Phase) → b.bucket ≡ e.call.bucket →
     GoesOn e (given_in e) now p w b.words (λ left. Some left) steps asked → ActsOn e now w (Some b) steps asked p
 of_bucket e now w b steps asked p h a =
-    inl (subst (λ (n : ℕ). GoesOn e (given_of e.service e.input e.space (Some n)) now p w b.words (λ left. Some left) steps asked) (sym h) a)
+    inl (subst (λ (n : ℕ). GoesOn e (given_of e.behavior e.input e.space (Some n)) now p w b.words (λ left. Some left) steps asked) (sym h) a)
 
 module _ (e : Errand) (ie : IsErrand e) (now : ℕ) (small : now < 2 ^ 64) (told : Follows e.clock now) (w : Walk) (nothing : w.want ≡ Nothing) (steps asked : ℕ) where
   pub acts_on : (loan : Option BucketWords) (p : Phase) → Lends e p loan → CleanIn e w (lent_words loan) steps asked p → ActsOn e now w loan steps asked p
@@ -120,7 +121,7 @@ module _ (e : Errand) (ie : IsErrand e) (begin c d : Counts) (old new : Traversa
   honest_end : turn new.walk (words_of left) state ≡ honest (turn_tree (given_with e loan) now later old.walk (words_of loan))
   honest_end = (clean_run (given_with e loan) now later old.walk (words_of loan) c d (turn new.walk (words_of left) state) run unstruck).0
 
-  counted : (more : ℕ) → more ≤ questions (turn_tree (given_with e loan) now later old.walk (words_of loan)) → d.asked < 2 ^ 128 - 1 → begin.asked + (clean.asked + more) ≤ d.asked
+  counted : (more : ℕ) → more ≤ weighed (turn_tree (given_with e loan) now later old.walk (words_of loan)) → d.asked < 2 ^ 128 - 1 → begin.asked + (clean.asked + more) ≤ d.asked
   counted more h m =
       let tree = turn_tree (given_with e loan) now later old.walk (words_of loan) in
       let x = turn new.walk (words_of left) state in
@@ -140,7 +141,7 @@ module _ (e : Errand) (ie : IsErrand e) (begin c d : Counts) (old new : Traversa
       let words_are : words_of left ≡ a.left = ap (λ (x : Turn). x.words) h in
       let lent_is = still_lent loan left a.left same (sym words_are) in
       let asks = (leads_turn (given_with e loan) now later old.walk (words_of loan) a.act a.walk a.left a.to a.site a.acts).1 in
-      let more_at_most : a.more ≤ questions (turn_tree (given_with e loan) now later old.walk (words_of loan)) = omega (arith, a.asks, asks) in
+      let more_at_most : a.more ≤ weighed (turn_tree (given_with e loan) now later old.walk (words_of loan)) = omega (arith, a.asks, asks) in
       Goes (ap (λ (x : Turn). x.state) h)
       (record {
         space = space ∙ clean.space;
@@ -224,12 +225,12 @@ module _ (e : Errand) (begin now : Counts) (old new : TraversalState) (lent : Op
 pub stays_on_way : {S : Type 0} (gives : S → (q : Question) → Answer q → S → Type 0) (counts : S → Counts) →
     ((s : S) (q : Question) (a : Answer q) (t : S) → gives s q a t → Answered (a ≡ honestly_to q) (counts s) (counts t)) →
     (told : Option ℕ) (e : Errand) (begin : Counts) (old new : TraversalState) (loan left : Option BucketWords) (state : State) (s t : S) →
-    TimedTwice gives told (λ now later. turn_tree (given_of e.service e.input old.space (bucket_of loan)) now later old.walk (words_of loan)) s t (turn new.walk (words_of left) state) →
+    TimedTwice gives told (λ now later. turn_tree (given_of e.behavior e.input old.space (bucket_of loan)) now later old.walk (words_of loan)) s t (turn new.walk (words_of left) state) →
     place_of left ≡ place_of loan → new.space ≡ old.space → new.steps ≡ one_more old.steps →
     IsErrand e → TellsAs e.clock told → Lends e old.walk.place.phase loan → OnWay e old (lent_words loan) begin (counts s) →
     StaysOnWay e old new (lent_words left) begin (counts t) new.walk.want state
 stays_on_way gives counts law told e begin old new loan left state s t turned same space steps ie tells lends way =
-    let tree : PassSpace → _ = λ g. turn_tree (given_of e.service e.input g (bucket_of loan)) turned.now turned.later old.walk (words_of loan) in
+    let tree : PassSpace → _ = λ g. turn_tree (given_of e.behavior e.input g (bucket_of loan)) turned.now turned.later old.walk (words_of loan) in
     let x = turn new.walk (words_of left) state in
     let run = counted_runs gives counts law (tree old.space) s t x turned.runs in
     let fell = never_falls (tree old.space) (counts s) (counts t) x run in
@@ -241,19 +242,19 @@ stays_on_way gives counts law told e begin old new loan left state s t turned sa
     let answer = answer_is e.clock told turned.now ie.clock tells turned.answer in
     honestly e ie begin (counts s) (counts t) old new loan left state turned.now turned.later answer.0 answer.1 lends same space steps run_on clean (unstruck ∙ sym before))
 
--- the same of a service and an input that are the errand's
+-- the same of a behavior and an input that are the errand's
 pub stays_on_way_given : {S : Type 0} (gives : S → (q : Question) → Answer q → S → Type 0) (counts : S → Counts) →
     ((s : S) (q : Question) (a : Answer q) (t : S) → gives s q a t → Answered (a ≡ honestly_to q) (counts s) (counts t)) →
-    (told : Option ℕ) (e : Errand) (begin : Counts) (old new : TraversalState) (loan left : Option BucketWords) (state : State) (s t : S) (service : Service) (input : List ℕ) →
-    e.service ≡ service → e.input ≡ input →
-    TimedTwice gives told (λ now later. turn_tree (given_of service input old.space (bucket_of loan)) now later old.walk (words_of loan)) s t (turn new.walk (words_of left) state) →
+    (told : Option ℕ) (e : Errand) (begin : Counts) (old new : TraversalState) (loan left : Option BucketWords) (state : State) (s t : S) (behavior : Behavior) (input : List ℕ) →
+    e.behavior ≡ behavior → e.input ≡ input →
+    TimedTwice gives told (λ now later. turn_tree (given_of behavior input old.space (bucket_of loan)) now later old.walk (words_of loan)) s t (turn new.walk (words_of left) state) →
     place_of left ≡ place_of loan → new.space ≡ old.space → new.steps ≡ one_more old.steps →
     IsErrand e → TellsAs e.clock told → Lends e old.walk.place.phase loan → OnWay e old (lent_words loan) begin (counts s) →
     StaysOnWay e old new (lent_words left) begin (counts t) new.walk.want state
-stays_on_way_given gives counts law told e begin old new loan left state s t service input f h turned same space steps ie tells lends way =
+stays_on_way_given gives counts law told e begin old new loan left state s t behavior input f h turned same space steps ie tells lends way =
     stays_on_way gives counts law told e begin old new loan left state s t
-    (subst (λ (x : Service). TimedTwice gives told (λ now later. turn_tree (given_of x e.input old.space (bucket_of loan)) now later old.walk (words_of loan)) s t (turn new.walk (words_of left) state)) (sym f)
-    (subst (λ (x : List ℕ). TimedTwice gives told (λ now later. turn_tree (given_of service x old.space (bucket_of loan)) now later old.walk (words_of loan)) s t (turn new.walk (words_of left) state)) (sym h) turned))
+    (subst (λ (x : Behavior). TimedTwice gives told (λ now later. turn_tree (given_of x e.input old.space (bucket_of loan)) now later old.walk (words_of loan)) s t (turn new.walk (words_of left) state)) (sym f)
+    (subst (λ (x : List ℕ). TimedTwice gives told (λ now later. turn_tree (given_of behavior x old.space (bucket_of loan)) now later old.walk (words_of loan)) s t (turn new.walk (words_of left) state)) (sym h) turned))
     same space steps ie tells lends way
 
 -- in Guard an input that fails is refused
@@ -266,11 +267,11 @@ refuses_there g now later w words f =
 
 pub refused_run : {S : Type 0} (gives : S → (q : Question) → Answer q → S → Type 0) (counts : S → Counts) →
     ((s : S) (q : Question) (a : Answer q) (t : S) → gives s q a t → Answered (a ≡ honestly_to q) (counts s) (counts t)) →
-    (told : Option ℕ) (service : Service) (input : List ℕ) (space : PassSpace) (lent : Option ℕ) (w v : Walk) (words left : List ℕ) (state : State) (s t : S) →
-    TimedTwice gives told (λ now later. turn_tree (given_of service input space lent) now later w words) s t (turn v left state) →
-    IsUnfit (given_of service input space None) w → (counts t).struck ≡ (counts s).struck → state ≡ Refused
-refused_run gives counts law told service input space lent w v words left state s t turned unfit same =
-    let g = given_of service input space lent in
+    (told : Option ℕ) (behavior : Behavior) (input : List ℕ) (space : PassSpace) (lent : Option ℕ) (w v : Walk) (words left : List ℕ) (state : State) (s t : S) →
+    TimedTwice gives told (λ now later. turn_tree (given_of behavior input space lent) now later w words) s t (turn v left state) →
+    IsUnfit (given_of behavior input space None) w → (counts t).struck ≡ (counts s).struck → state ≡ Refused
+refused_run gives counts law told behavior input space lent w v words left state s t turned unfit same =
+    let g = given_of behavior input space lent in
     let x = turn v left state in
     let w0 : Walk = record w { place = at Guard 0 } in
     let run = counted_runs gives counts law (turn_tree g turned.now turned.later w words) s t x turned.runs in

@@ -5,7 +5,7 @@ use Rattle.sei_pass.specs.declared.spaces.PassSpace.{PassSpace}
 use Rattle.sei_fault.specs.Counts.{Counts}
 use Rattle.sei_fault.specs.Question.{Question, Answer}
 use Rattle.sei_fault.specs.Tree.{Runs}
-use Rattle.sei_fault.proofs.Runs.{runs_bound}
+use Rattle.sei_fault.proofs.Public.{runs_bound}
 use Rattle.sei_log.specs.declared.log.Change.{Change}
 use Rattle.sei_log.specs.declared.notes.Notes.{Notes}
 use Rattle.sei_stmt.specs.Machine.{Outcome}
@@ -16,7 +16,7 @@ use Rattle.sei_pass.specs.Steps.{machine_of, Stepped}
 use Rattle.sei_traverse.specs.declared.walk.Walk.{Walk}
 use Rattle.sei_traverse.specs.Acts.{Acted}
 use Rattle.sei_traverse.specs.PassActs.{pass_of, first_machine, second_machine, first_from, first_to, second_from, second_to, first_tree, second_tree}
-use Rattle.sei_traverse.specs.Service.{Given, setting_in}
+use Rattle.sei_traverse.specs.Given.{Given, setting_in}
 use Rattle.sei_traverse.specs.Step.{Timed}
 
 -- a pass of the same space is known by its machine

@@ -9,15 +9,17 @@ use Rattle.sei_fault.specs.declared.cause.AbortCause.{AbortCause}
 use Rattle.sei_fault.specs.declared.cause.AbortCause.TheVariants.{Table}
 use Rattle.sei_fault.specs.declared.place.Act.{Act}
 use Rattle.sei_fault.specs.declared.place.Phase.TheVariants.{First, Restore, Second, Compare}
-use Rattle.sei_fault.specs.Tree.{Tree, honest, questions, bound}
-use Rattle.sei_fault.proofs.Bound.{honest_bound, questions_bound}
+use Rattle.sei_fault.specs.Tree.{Tree, honest, bound}
+use Rattle.sei_fault.specs.Weights.{weighed}
+use Rattle.sei_fault.proofs.Public.{honest_bound, weighed_bound}
 use Rattle.sei_gate.specs.Closing.{risen}
 use Rattle.sei_stmt.specs.declared.stmt.Stmt.{Stmt}
-use Rattle.sei_stmt.specs.Honest.{after, asked_after, asked_in}
+use Rattle.sei_stmt.specs.Honest.{after}
+use Rattle.sei_stmt.specs.Weights.{weighed_after, weighed_in}
 use Rattle.sei_stmt.specs.Machine.{Machine, Setting, Outcome, After}
 use Rattle.sei_stmt.specs.Machine.Outcome.{Next, Halted, Bad}
 use Rattle.sei_stmt.specs.Statements.{found_tree, step_tree}
-use Rattle.sei_stmt.proofs.HonestLaws.{after_one, still_halted, halts_or_aborts, halts_or_goes_on}
+use Rattle.sei_stmt.proofs.Public.{after_one, still_halted, halts_or_aborts, halts_or_goes_on}
 use Rattle.sei_pass.specs.Acts.{act_of}
 use Rattle.sei_pass.specs.declared.given.Sealed.{Sealed}
 use Rattle.sei_pass.specs.declared.given.Which.TheVariants.{Making, Reading}
@@ -28,13 +30,13 @@ use Rattle.sei_traverse.specs.Acts.{at}
 use Rattle.sei_traverse.specs.Comes.{at_time, again, renoted, renoted_end, Agrees, Comes}
 use Rattle.sei_traverse.specs.Errand.{Errand, Follows, given_in, first_setting, first_start, IsErrand, Whole}
 use Rattle.sei_traverse.specs.PassActs.{asked_behind, pass_of, first_machine, second_machine, with_first, with_second, first_from, first_to, second_from, second_to}
-use Rattle.sei_traverse.specs.Service.{setting_in}
+use Rattle.sei_traverse.specs.Given.{setting_in}
 use Rattle.sei_traverse.specs.Step.{act_in, site_in}
 use Rattle.sei_traverse.specs.Unstruck.{IsOf, SecondIsNew, FirstRuns, InFirst, InRestore, InSecond, InBoth, InCompare}
 use Rattle.sei_traverse.proofs.Closes.{closed, closes_in_turn, first_behind, second_behind}
 use Rattle.sei_traverse.proofs.GoesOn.{GoesOn}
 use Rattle.sei_traverse.proofs.NoteLaws.{repeats, repeats_asked}
-use Rattle.sei_traverse.proofs.TimeLaws.{timeless_again, after_again, asked_after_again, within_clock, agrees_on, comes_on, goes_on, Stands, ends_so}
+use Rattle.sei_traverse.proofs.TimeLaws.{timeless_again, after_again, weighed_after_again, within_clock, agrees_on, comes_on, goes_on, Stands, ends_so}
 
 -- Both passes.
 
@@ -91,29 +93,29 @@ module _ (e : Errand) (now : ℕ) (w : Walk) (words : List ℕ) where
       ∙ ap (λ (s : Sealed). honest (first_to w (honest (step_tree (setting_in (given_in e) Making s now) w.place.index (first_machine w words))))) is
 
   -- it asks what the statement asks, and the closing test where that halts
-  first_asks : w.sealed ≡ e.sealed → questions first_step + asked_behind first_end.outcome ≤ questions (act_in (given_in e) now First w.place.index w words)
+  first_asks : w.sealed ≡ e.sealed → weighed first_step + asked_behind first_end.outcome ≤ weighed (act_in (given_in e) now First w.place.index w words)
   first_asks is =
-      let all = questions_bound first_step (first_to w) in
+      let all = weighed_bound first_step (first_to w) in
       let behind = first_behind (with_first w first_end.machine) first_end.machine.words first_end.outcome in
-      let here : questions first_step + asked_behind first_end.outcome ≤ questions (bound first_step (first_to w)) = omega (arith, all, behind) in
-      subst (λ (s : Sealed). questions first_step + asked_behind first_end.outcome ≤ questions (bound (step_tree (setting_in (given_in e) Making s now) w.place.index (first_machine w words)) (first_to w)))
+      let here : weighed first_step + asked_behind first_end.outcome ≤ weighed (bound first_step (first_to w)) = omega (arith, all, behind) in
+      subst (λ (s : Sealed). weighed first_step + asked_behind first_end.outcome ≤ weighed (bound (step_tree (setting_in (given_in e) Making s now) w.place.index (first_machine w words)) (first_to w)))
       (sym is) here
 
-  first_asks_closing : w.sealed ≡ e.sealed → first_end.outcome ≡ Halted → questions first_step + 1 ≤ questions (act_in (given_in e) now First w.place.index w words)
+  first_asks_closing : w.sealed ≡ e.sealed → first_end.outcome ≡ Halted → weighed first_step + 1 ≤ weighed (act_in (given_in e) now First w.place.index w words)
   first_asks_closing is halts = let one : asked_behind first_end.outcome ≡ 1 = ap asked_behind halts in omega (arith, first_asks is, one)
 
   module _ (errand : IsErrand e) (small : now < 2 ^ 64) (told : Follows e.clock now) (nothing : w.want ≡ Nothing) (steps asked : ℕ) (is : IsOf e w First) (second : SecondIsNew e w) (runs : FirstRuns e w words steps asked) where
-    first_followed : Followed e.clock (first_setting e) (first_start e) (suc runs.made) (asked + questions first_step) first_end
+    first_followed : Followed e.clock (first_setting e) (first_start e) (suc runs.made) (asked + weighed first_step) first_end
     first_followed =
-        followed e.clock (first_setting e) (first_start e) (suc runs.made) (asked + questions first_step) first_end runs.comes.time now runs.told told
+        followed e.clock (first_setting e) (first_start e) (suc runs.made) (asked + weighed first_step) first_end runs.comes.time now runs.told told
         (comes_on (first_setting e) (first_start e) refl refl errand.ends runs.made w.place.index asked now (first_machine w words) runs.comes small)
         (λ same. agrees_on (first_setting e) refl now w.place.index (first_machine w words) small (subst (λ t. Agrees w.notes.now t) same runs.comes.agrees))
 
-    abbrev first_comes : Comes (first_setting e) (first_start e) (suc runs.made) first_end (asked + questions first_step)
+    abbrev first_comes : Comes (first_setting e) (first_start e) (suc runs.made) first_end (asked + weighed first_step)
     first_comes = first_followed.comes
 
     first_stands : Stands (first_setting e) (first_start e) (suc runs.made) first_comes.time first_end
-    first_stands = ends_so (first_setting e) (first_start e) errand.ends (suc runs.made) (asked + questions first_step) first_end first_comes
+    first_stands = ends_so (first_setting e) (first_start e) errand.ends (suc runs.made) (asked + weighed first_step) first_end first_comes
 
     -- where it halts, it was within its budget
     first_within : suc runs.made < (first_setting e).budget
@@ -124,19 +126,19 @@ module _ (e : Errand) (now : ℕ) (w : Walk) (words : List ℕ) where
         let budget = (errand.ends t lt).within in
         omega (arith, before, budget)
 
-    first_site : (act : Act) × (site_in e.service w First w.place.index ≡ Some act)
+    first_site : (act : Act) × (site_in e.behavior w First w.place.index ≡ Some act)
     first_site = found_site (at_time (first_setting e) now) w.place.index (first_machine w words) w.first.registers first_stands.never_bad
 
     -- the next statement
     first_next : (index : ℕ) → first_end.outcome ≡ Next index →
-        InFirst e (record (with_first w first_end.machine) { place = at First index }) (Some first_end.machine.words) (suc steps) (asked + questions first_step)
+        InFirst e (record (with_first w first_end.machine) { place = at First index }) (Some first_end.machine.words) (suc steps) (asked + weighed first_step)
     first_next index next = record {
       is = record { sealed = is.sealed; gate = is.gate };
       second = record { second = second.second; second_log = second.second_log };
       at = record {
         space = runs.space;
         made = suc runs.made;
-        comes = subst (λ (o : Outcome). Comes (first_setting e) (first_start e) (suc runs.made) (record { machine = first_end.machine; outcome = o }) (asked + questions first_step)) next first_comes;
+        comes = subst (λ (o : Outcome). Comes (first_setting e) (first_start e) (suc runs.made) (record { machine = first_end.machine; outcome = o }) (asked + weighed first_step)) next first_comes;
         told = first_followed.told;
         number = omega (arith, runs.number);
       };
@@ -152,7 +154,7 @@ module _ (e : Errand) (now : ℕ) (w : Walk) (words : List ℕ) where
       next = tt;
       acts = first_acts is.sealed ∙ ap (λ (o : Outcome). honest (first_from (with_first w first_end.machine) first_end.machine.words o)) next;
       want = nothing;
-      more = questions first_step;
+      more = weighed first_step;
       asks = omega (arith, first_asks is.sealed);
       clean = first_next index next;
     }
@@ -170,7 +172,7 @@ module _ (e : Errand) (now : ℕ) (w : Walk) (words : List ℕ) where
     }
 
     first_done : first_end.outcome ≡ Halted →
-        InRestore e (record (closed (with_first w first_end.machine)) { place = at Restore 0 }) (Some first_end.machine.words) (suc steps) (asked + (questions first_step + 1))
+        InRestore e (record (closed (with_first w first_end.machine)) { place = at Restore 0 }) (Some first_end.machine.words) (suc steps) (asked + (weighed first_step + 1))
     first_done halts = record {
       is = record { sealed = is.sealed; gate = ap risen is.gate };
       time = first_comes.time;
@@ -198,7 +200,7 @@ module _ (e : Errand) (now : ℕ) (w : Walk) (words : List ℕ) where
           ∙ ap (λ (o : Outcome). honest (first_from (with_first w first_end.machine) first_end.machine.words o)) halts
           ∙ closes_in_turn First (with_first w first_end.machine) first_end.machine.words (at Restore 0) is.gate;
       want = refl;
-      more = questions first_step + 1;
+      more = weighed first_step + 1;
       asks = first_asks_closing is.sealed halts;
       clean = first_done halts;
     }
@@ -217,17 +219,17 @@ first_on e now w words steps asked errand small told nothing h =
 -- The second pass.
 
 -- behind the end of a run nothing is asked
-asked_stays : (g : Setting) (start m : Machine) (n d : ℕ) → after g start n ≡ record { machine = m; outcome = Halted } → asked_after g start (d + n) ≡ asked_after g start n
-asked_stays g start m n zero e = let here : zero + n ≡ n = omega arith in ap (asked_after g start) here
+asked_stays : (g : Setting) (start m : Machine) (n d : ℕ) → after g start n ≡ record { machine = m; outcome = Halted } → weighed_after g start (d + n) ≡ weighed_after g start n
+asked_stays g start m n zero e = let here : zero + n ≡ n = omega arith in ap (weighed_after g start) here
 asked_stays g start m n (suc d) e =
     let one : suc d + n ≡ suc (d + n) = omega arith in
     let ended : after g start (d + n) ≡ record { machine = m; outcome = Halted } = still_halted g start m n (d + n) (omega arith) e in
-    let none : asked_in g (after g start (d + n)).machine (after g start (d + n)).outcome ≡ 0 = ap (λ (x : After). asked_in g x.machine x.outcome) ended in
-    let more : asked_after g start (suc d + n) ≡ asked_after g start (suc (d + n)) = ap (asked_after g start) one in
+    let none : weighed_in g (after g start (d + n)).machine (after g start (d + n)).outcome ≡ 0 = ap (λ (x : After). weighed_in g x.machine x.outcome) ended in
+    let more : weighed_after g start (suc d + n) ≡ weighed_after g start (suc (d + n)) = ap (weighed_after g start) one in
     omega (arith, none, more, asked_stays g start m n d e)
 
-asked_still : (g : Setting) (start m : Machine) (n k : ℕ) → n ≤ k → after g start n ≡ record { machine = m; outcome = Halted } → asked_after g start k ≡ asked_after g start n
-asked_still g start m n k le e = let there : k - n + n ≡ k = omega (arith, le) in ap (asked_after g start) (sym there) ∙ asked_stays g start m n (k - n) e
+asked_still : (g : Setting) (start m : Machine) (n k : ℕ) → n ≤ k → after g start n ≡ record { machine = m; outcome = Halted } → weighed_after g start k ≡ weighed_after g start n
+asked_still g start m n k le e = let there : k - n + n ≡ k = omega (arith, le) in ap (weighed_after g start) (sym there) ∙ asked_stays g start m n (k - n) e
 
 -- a place of a run by its outcome
 outcome_at : (x : After) (o : Outcome) → x.outcome ≡ o → x ≡ record { machine = x.machine; outcome = o }
@@ -297,25 +299,25 @@ module _ (e : Errand) (w : Walk) (words : List ℕ) (steps asked : ℕ) (h : InS
       ap (λ (x : After). x.machine) second_same ∙ ap (renoted h.end.notes) one
 
   abbrev second_asked : ℕ → ℕ
-  second_asked k = asked_after (again (first_setting e)) (renoted h.end.notes (first_start e)) k
+  second_asked k = weighed_after (again (first_setting e)) (renoted h.end.notes (first_start e)) k
 
-  second_asked_one : second_asked (suc h.n) ≡ second_asked h.n + questions second_step
-  second_asked_one = ap (λ (x : After). second_asked h.n + asked_in (again (first_setting e)) x.machine x.outcome) second_here
+  second_asked_one : second_asked (suc h.n) ≡ second_asked h.n + weighed second_step
+  second_asked_one = ap (λ (x : After). second_asked h.n + weighed_in (again (first_setting e)) x.machine x.outcome) second_here
 
   -- and has asked no fewer questions
-  second_asked_all : second_end.outcome ≡ Halted → asked_after (at_time (first_setting e) h.time) (first_start e) h.made ≤ second_asked (suc h.n)
+  second_asked_all : second_end.outcome ≡ Halted → weighed_after (at_time (first_setting e) h.time) (first_start e) h.made ≤ second_asked (suc h.n)
   second_asked_all halts =
       let still = asked_still (at_time (first_setting e) h.time) (first_start e) (first_at (suc h.n)).machine (suc h.n) h.made second_early (first_like Halted halts) in
       let fewer = repeats_asked (at_time (first_setting e) h.time) (first_start e) refl refl h.end h.made h.whole.run h.whole.ordered (suc h.n) second_early in
-      let timeless = asked_after_again (first_setting e) h.time (renoted h.end.notes (first_start e)) (suc h.n) in
+      let timeless = weighed_after_again (first_setting e) h.time (renoted h.end.notes (first_start e)) (suc h.n) in
       omega (arith, still, fewer, timeless)
 
-  second_site : (act : Act) × (site_in e.service w Second w.place.index ≡ Some act)
+  second_site : (act : Act) × (site_in e.behavior w Second w.place.index ≡ Some act)
   second_site = found_site (again (first_setting e)) w.place.index (second_machine w words) w.second.registers second_never_bad
 
   -- the next statement
   second_next : (index : ℕ) → second_end.outcome ≡ Next index →
-      InSecond e (record (with_second w second_end.machine) { place = at Second index }) (Some second_end.machine.words) (suc steps) (asked + questions second_step)
+      InSecond e (record (with_second w second_end.machine) { place = at Second index }) (Some second_end.machine.words) (suc steps) (asked + weighed second_step)
   second_next index next = record {
     is = record { sealed = h.is.sealed; gate = h.is.gate };
     time = h.time;
@@ -335,7 +337,7 @@ module _ (e : Errand) (w : Walk) (words : List ℕ) (steps asked : ℕ) (h : InS
 
   -- both passes have come to the same end
   both_done : second_end.outcome ≡ Halted →
-      InBoth e (record (closed (with_second w second_end.machine)) { place = at Compare 0 }) (Some second_end.machine.words) h.time h.made h.end (asked + (questions second_step + 1))
+      InBoth e (record (closed (with_second w second_end.machine)) { place = at Compare 0 }) (Some second_end.machine.words) h.time h.made h.end (asked + (weighed second_step + 1))
   both_done halts = record {
     whole = h.whole;
     first = record { first = h.first.first; first_log = h.first.first_log; notes = second_notes };
@@ -348,7 +350,7 @@ module _ (e : Errand) (w : Walk) (words : List ℕ) (steps asked : ℕ) (h : InS
   }
 
   second_done : second_end.outcome ≡ Halted →
-      InCompare e (record (closed (with_second w second_end.machine)) { place = at Compare 0 }) (Some second_end.machine.words) (suc steps) (asked + (questions second_step + 1))
+      InCompare e (record (closed (with_second w second_end.machine)) { place = at Compare 0 }) (Some second_end.machine.words) (suc steps) (asked + (weighed second_step + 1))
   second_done halts = record {
     is = record { sealed = h.is.sealed; gate = ap risen h.is.gate };
     time = h.time;
@@ -371,14 +373,14 @@ module _ (e : Errand) (w : Walk) (words : List ℕ) (steps asked : ℕ) (h : InS
         honest_bound (step_tree (setting_in (given_in e) Reading w.sealed now) w.place.index (second_machine w words)) (second_to w)
         ∙ ap (λ (tree : Tree After). honest (second_to w (honest tree))) second_is
 
-    second_asks : questions second_step + asked_behind second_end.outcome ≤ questions (act_in (given_in e) now Second w.place.index w words)
+    second_asks : weighed second_step + asked_behind second_end.outcome ≤ weighed (act_in (given_in e) now Second w.place.index w words)
     second_asks =
-        let all = questions_bound second_step (second_to w) in
+        let all = weighed_bound second_step (second_to w) in
         let behind = second_behind (with_second w second_end.machine) second_end.machine.words second_end.outcome in
-        let here : questions second_step + asked_behind second_end.outcome ≤ questions (bound second_step (second_to w)) = omega (arith, all, behind) in
-        subst (λ (tree : Tree After). questions second_step + asked_behind second_end.outcome ≤ questions (bound tree (second_to w))) (sym second_is) here
+        let here : weighed second_step + asked_behind second_end.outcome ≤ weighed (bound second_step (second_to w)) = omega (arith, all, behind) in
+        subst (λ (tree : Tree After). weighed second_step + asked_behind second_end.outcome ≤ weighed (bound tree (second_to w))) (sym second_is) here
 
-    second_asks_closing : second_end.outcome ≡ Halted → questions second_step + 1 ≤ questions (act_in (given_in e) now Second w.place.index w words)
+    second_asks_closing : second_end.outcome ≡ Halted → weighed second_step + 1 ≤ weighed (act_in (given_in e) now Second w.place.index w words)
     second_asks_closing halts = let one : asked_behind second_end.outcome ≡ 1 = ap asked_behind halts in omega (arith, second_asks, one)
 
     second_goes : (index : ℕ) → second_end.outcome ≡ Next index → GoesOn e (given_in e) now Second w words Some steps asked
@@ -391,7 +393,7 @@ module _ (e : Errand) (w : Walk) (words : List ℕ) (steps asked : ℕ) (h : InS
       next = tt;
       acts = second_acts ∙ ap (λ (o : Outcome). honest (second_from (with_second w second_end.machine) second_end.machine.words o)) next;
       want = nothing;
-      more = questions second_step;
+      more = weighed second_step;
       asks = omega (arith, second_asks);
       clean = second_next index next;
     }
@@ -409,7 +411,7 @@ module _ (e : Errand) (w : Walk) (words : List ℕ) (steps asked : ℕ) (h : InS
           ∙ ap (λ (o : Outcome). honest (second_from (with_second w second_end.machine) second_end.machine.words o)) halts
           ∙ closes_in_turn Second (with_second w second_end.machine) second_end.machine.words (at Compare 0) h.is.gate;
       want = refl;
-      more = questions second_step + 1;
+      more = weighed second_step + 1;
       asks = second_asks_closing halts;
       clean = second_done halts;
     }

@@ -4,7 +4,8 @@ use Rattle.std.proofs.Common.{◌≡◌, ℕ, ◌+◌, ◌^◌, ◌<◌, List, O
 use Rattle.sei_fault.specs.Phases.{phase_number}
 use Rattle.sei_fault.specs.declared.cause.AbortCause.TheVariants.{Range}
 use Rattle.sei_fault.specs.StruckRuns.{StruckRun}
-use Rattle.sei_fault.specs.Tree.{honest, questions}
+use Rattle.sei_fault.specs.Tree.{honest}
+use Rattle.sei_fault.specs.Weights.{weighed}
 use Rattle.sei_fault.specs.declared.place.Phase.{Phase}
 use Rattle.sei_fault.specs.declared.place.Phase.TheVariants.{Guard, Take, Send, Done}
 use Rattle.sei_fault.specs.declared.place.Place.{Place}
@@ -16,7 +17,7 @@ use Rattle.sei_traverse.specs.Acts.{Acted, at}
 use Rattle.sei_traverse.specs.Errand.{Errand, Follows}
 use Rattle.sei_traverse.specs.Facts.{Knows, Wanted}
 use Rattle.sei_traverse.proofs.ClosesNext.{ClosesNext}
-use Rattle.sei_traverse.specs.Service.{Given, given_of}
+use Rattle.sei_traverse.specs.Given.{Given, given_of}
 use Rattle.sei_traverse.specs.Step.{act_in}
 use Rattle.sei_traverse.specs.Struck.{HasCopyOfSome, StruckIn}
 use Rattle.sei_traverse.specs.Unstruck.{CleanIn}
@@ -31,11 +32,11 @@ lent_in phase words = Some words
 
 -- what the acts of a phase are given, where the wanted bucket is lent
 abbrev pub given_for : Errand → Phase → ℕ → Given
-given_for e Guard wanted = given_of e.service e.input e.space None
-given_for e Take wanted = given_of e.service e.input e.space None
-given_for e Send wanted = given_of e.service e.input e.space None
-given_for e Done wanted = given_of e.service e.input e.space None
-given_for e phase wanted = given_of e.service e.input e.space (Some wanted)
+given_for e Guard wanted = given_of e.behavior e.input e.space None
+given_for e Take wanted = given_of e.behavior e.input e.space None
+given_for e Send wanted = given_of e.behavior e.input e.space None
+given_for e Done wanted = given_of e.behavior e.input e.space None
+given_for e phase wanted = given_of e.behavior e.input e.space (Some wanted)
 
 -- the act leads to a place where the gate is right, and the case of its phase stands; or to the end
 pub data LeadsWell (e : Errand) (phase : Phase) (w : Walk) (words : List ℕ) (asked : ℕ) (to : Place) : Type 0 where
@@ -64,5 +65,5 @@ pub record PhaseLaws (e : Errand) (phase : Phase) : Type 0 where
   -- an act without a strike, behind one
   pub honest_on : (now : ℕ) → now < 2 ^ 64 → Follows e.clock now → (w : Walk) (words : List ℕ) (asked : ℕ) → w.want ≡ Nothing → w.gate.done ≡ phase_number phase → w.sealed ≡ e.sealed →
       StruckIn e w (lent_in phase words) asked phase →
-      ActsWell e phase (asked + questions (act_in (given_for e phase w.wanted) now phase w.place.index w words))
+      ActsWell e phase (asked + weighed (act_in (given_for e phase w.wanted) now phase w.place.index w words))
       (honest (act_in (given_for e phase w.wanted) now phase w.place.index w words))

@@ -23,7 +23,8 @@ use Rattle.sei_traverse.specs.Noting.{NotesTime}
 use Rattle.sei_traverse.specs.Noting.NotesTime.{Same}
 use Rattle.sei_traverse.specs.OnWay.{lent_words, Lends, LendsBucketOf, TellsAs, OnWay, OnWayAfter, StaysOnWay}
 use Rattle.sei_traverse.specs.Running.{On, Makes, Quiet, RunsOn}
-use Rattle.sei_traverse.specs.Service.{Service, given_of, bucket_or_zero}
+use Rattle.sei_traverse.specs.Given.{given_of, bucket_or_zero}
+use Rattle.sei_stmt.specs.Handling.{Behavior}
 use Rattle.sei_traverse.specs.State.{TraversalState, IsTraversal}
 use Rattle.sei_traverse.specs.Step.{turn, turn_tree}
 use Rattle.sei_traverse.specs.Trusted.{IsTrusted}
@@ -104,25 +105,25 @@ nothing_more (suc n) = ap (λ (ws : List Want). Nothing ∷ ws) (nothing_more n)
 one_more_quiet : (wants : List Want) (n : ℕ) → (wants ++ replicate n Nothing) ++ Nothing ∷ [] ≡ wants ++ replicate (suc n) Nothing
 one_more_quiet wants n = append_assoc wants (replicate n Nothing) (Nothing ∷ []) ∙ ap (λ (ws : List Want). wants ++ ws) (nothing_more n)
 
-module _ {S : Type 0} (gives : S → (q : Question) → Answer q → S → Type 0) (counts : S → Counts) (told : Option ℕ) (service : Service) (input : List ℕ) where
+module _ {S : Type 0} (gives : S → (q : Question) → Answer q → S → Type 0) (counts : S → Counts) (told : Option ℕ) (behavior : Behavior) (input : List ℕ) where
   abbrev IsQuiet : On S → On S → Type 0
-  IsQuiet = Quiet gives counts told service input
+  IsQuiet = Quiet gives counts told behavior input
 
   abbrev IsRun : ℕ → On S → On S → Turned → Type 0
-  IsRun = RunsOn gives counts told service input
+  IsRun = RunsOn gives counts told behavior input
 
   -- what goes from each step to the next, goes over a run
-  pub run_relates : (Relation : On S → On S → Type 0) (n : ℕ) (x z : On S) (t : Turned) → Relation x x → ((a b : On S) (s : Turned) → Makes gives counts told service input a b s → Relation x a → Relation x b) →
-      RunsOn gives counts told service input n x z t → Relation x z
+  pub run_relates : (Relation : On S → On S → Type 0) (n : ℕ) (x z : On S) (t : Turned) → Relation x x → ((a b : On S) (s : Turned) → Makes gives counts told behavior input a b s → Relation x a → Relation x b) →
+      RunsOn gives counts told behavior input n x z t → Relation x z
   run_relates Relation n x z t here on r = on r.last z t r.makes (chain_relates IsQuiet Relation n x r.last here (λ a b q. on a b (record { want = Nothing; state = Went }) q) r.chain)
 
-  pub run_sealed : (n : ℕ) (x z : On S) (t : Turned) → RunsOn gives counts told service input n x z t → z.traversal.walk.sealed ≡ x.traversal.walk.sealed
+  pub run_sealed : (n : ℕ) (x z : On S) (t : Turned) → RunsOn gives counts told behavior input n x z t → z.traversal.walk.sealed ≡ x.traversal.walk.sealed
   run_sealed n x z t = run_relates (λ a b. b.traversal.walk.sealed ≡ a.traversal.walk.sealed) n x z t refl (λ a b s m e. m.sealed ∙ e)
 
-  pub run_space : (n : ℕ) (x z : On S) (t : Turned) → RunsOn gives counts told service input n x z t → z.traversal.space ≡ x.traversal.space
+  pub run_space : (n : ℕ) (x z : On S) (t : Turned) → RunsOn gives counts told behavior input n x z t → z.traversal.space ≡ x.traversal.space
   run_space n x z t = run_relates (λ a b. b.traversal.space ≡ a.traversal.space) n x z t refl (λ a b s m e. m.space ∙ e)
 
-  pub run_lent : (n : ℕ) (x z : On S) (t : Turned) → RunsOn gives counts told service input n x z t → place_of z.lent ≡ place_of x.lent
+  pub run_lent : (n : ℕ) (x z : On S) (t : Turned) → RunsOn gives counts told behavior input n x z t → place_of z.lent ≡ place_of x.lent
   run_lent n x z t = run_relates (λ a b. place_of b.lent ≡ place_of a.lent) n x z t refl (λ a b s m e. m.lent ∙ e)
 
   -- the number of steps
@@ -130,20 +131,20 @@ module _ {S : Type 0} (gives : S → (q : Question) → Answer q → S → Type 
   chain_steps zero x z small e = ap (λ (y : On S). y.traversal.steps) e ∙ (let k : x.traversal.steps ≡ min (x.traversal.steps + 0) (2 ^ 64 - 1) = omega (arith, small) in k)
   chain_steps (suc n) x z small (y, c, q) = omega (arith, q.steps, chain_steps n x y small c)
 
-  pub run_steps : (n : ℕ) (x z : On S) (t : Turned) → x.traversal.steps ≤ 2 ^ 64 - 1 → RunsOn gives counts told service input n x z t → z.traversal.steps ≡ min (x.traversal.steps + suc n) (2 ^ 64 - 1)
+  pub run_steps : (n : ℕ) (x z : On S) (t : Turned) → x.traversal.steps ≤ 2 ^ 64 - 1 → RunsOn gives counts told behavior input n x z t → z.traversal.steps ≡ min (x.traversal.steps + suc n) (2 ^ 64 - 1)
   run_steps n x z t small r = omega (arith, r.makes.steps, chain_steps n x r.last small r.chain)
 
-  pub run_noted : (n : ℕ) (x z : On S) (t : Turned) → RunsOn gives counts told service input n x z t → NotesTime told x.traversal.walk.notes.now z.traversal.walk.notes.now
+  pub run_noted : (n : ℕ) (x z : On S) (t : Turned) → RunsOn gives counts told behavior input n x z t → NotesTime told x.traversal.walk.notes.now z.traversal.walk.notes.now
   run_noted n x z t = run_relates (λ a b. NotesTime told a.traversal.walk.notes.now b.traversal.walk.notes.now) n x z t (Same refl)
       (λ a b s m h. behind told x.traversal.walk.notes.now a.traversal.walk.notes.now b.traversal.walk.notes.now h m.noted)
 
-  pub run_asked : (n : ℕ) (x z : On S) (t : Turned) → RunsOn gives counts told service input n x z t → min (counts x.core).asked (2 ^ 128 - 1) ≤ (counts z.core).asked
+  pub run_asked : (n : ℕ) (x z : On S) (t : Turned) → RunsOn gives counts told behavior input n x z t → min (counts x.core).asked (2 ^ 128 - 1) ≤ (counts z.core).asked
   run_asked n x z t = run_relates (λ a b. min (counts a.core).asked (2 ^ 128 - 1) ≤ (counts b.core).asked) n x z t (omega arith) (λ a b s m h. omega (arith, m.asked, h))
 
   chain_struck : (n : ℕ) (x z : On S) → Chain IsQuiet n x z → (counts x.core).struck ≤ (counts z.core).struck
   chain_struck n x z = chain_relates IsQuiet (λ a b. (counts a.core).struck ≤ (counts b.core).struck) n x z (omega arith) (λ a b q h. omega (arith, q.struck, h))
 
-  pub run_struck : (n : ℕ) (x z : On S) (t : Turned) → RunsOn gives counts told service input n x z t → (counts x.core).struck ≤ (counts z.core).struck
+  pub run_struck : (n : ℕ) (x z : On S) (t : Turned) → RunsOn gives counts told behavior input n x z t → (counts x.core).struck ≤ (counts z.core).struck
   run_struck n x z t = run_relates (λ a b. (counts a.core).struck ≤ (counts b.core).struck) n x z t (omega arith) (λ a b s m h. omega (arith, m.struck, h))
 
   module _ (law : (s : S) (q : Question) (a : Answer q) (t : S) → gives s q a t → Answered (a ≡ honestly_to q) (counts s) (counts t)) where
@@ -152,44 +153,44 @@ module _ {S : Type 0} (gives : S → (q : Question) → Answer q → S → Type 
     abbrev Lowers : On S → On S → Type 0
     Lowers a b = (r : ℕ) → (counts a.core).room ≡ Some r → (s : ℕ) × ((counts b.core).room ≡ Some s) × ((counts b.core).struck + s ≡ (counts a.core).struck + r)
 
-    makes_room : (a b : On S) (s : Turned) → Makes gives counts told service input a b s → Lowers a b
+    makes_room : (a b : On S) (s : Turned) → Makes gives counts told behavior input a b s → Lowers a b
     makes_room a b s m r e =
-        room_left_turned gives counts law told (λ now later. turn_tree (given_of service input a.traversal.space (bucket_of a.lent)) now later a.traversal.walk (words_of a.lent)) a.core b.core (turn b.traversal.walk (words_of b.lent) s.state) m.turned r e
+        room_left_turned gives counts law told (λ now later. turn_tree (given_of behavior input a.traversal.space (bucket_of a.lent)) now later a.traversal.walk (words_of a.lent)) a.core b.core (turn b.traversal.walk (words_of b.lent) s.state) m.turned r e
 
-    pub run_room : (n : ℕ) (x z : On S) (t : Turned) → RunsOn gives counts told service input n x z t → Lowers x z
+    pub run_room : (n : ℕ) (x z : On S) (t : Turned) → RunsOn gives counts told behavior input n x z t → Lowers x z
     run_room n x z t = run_relates Lowers n x z t (λ r e. (r, e, refl))
         (λ a b s m h r e. let i = h r e in let j = makes_room a b s m i.0 i.1 in (j.0, j.1, j.2 ∙ i.2))
 
     -- the number of steps stays bounded
 
-    makes_within : (begin : Counts) (a b : On S) (s : Turned) → Makes gives counts told service input a b s → IsTraversal a.traversal → StepsWithin a.traversal begin (counts a.core) → StepsAfter b.traversal begin (counts b.core) s.state
+    makes_within : (begin : Counts) (a b : On S) (s : Turned) → Makes gives counts told behavior input a b s → IsTraversal a.traversal → StepsWithin a.traversal begin (counts a.core) → StepsAfter b.traversal begin (counts b.core) s.state
     makes_within begin a b s m is within =
-        steps_after_turned gives counts law told (given_of service input a.traversal.space (bucket_of a.lent)) (words_of a.lent) (words_of b.lent) begin a.traversal b.traversal s.state a.core b.core m.turned is m.space m.steps within
+        steps_after_turned gives counts law told (given_of behavior input a.traversal.space (bucket_of a.lent)) (words_of a.lent) (words_of b.lent) begin a.traversal b.traversal s.state a.core b.core m.turned is m.space m.steps within
 
     abbrev IsWithin : Counts → On S → Type 0
     IsWithin begin a = IsTraversal a.traversal × StepsWithin a.traversal begin (counts a.core)
 
-    pub run_within : (begin : Counts) (n : ℕ) (x z : On S) (t : Turned) → RunsOn gives counts told service input n x z t → IsTraversal x.traversal → StepsWithin x.traversal begin (counts x.core) → StepsAfter z.traversal begin (counts z.core) t.state
+    pub run_within : (begin : Counts) (n : ℕ) (x z : On S) (t : Turned) → RunsOn gives counts told behavior input n x z t → IsTraversal x.traversal → StepsWithin x.traversal begin (counts x.core) → StepsAfter z.traversal begin (counts z.core) t.state
     run_within begin n x z t r is within =
         let last : IsWithin begin r.last = chain_keeps IsQuiet (IsWithin begin) n x r.last (λ a b q h. (q.rooms, makes_within begin a b (record { want = Nothing; state = Went }) q h.0 h.1)) r.chain (is, within) in
         makes_within begin r.last z t r.makes last.0 last.1
 
-    module _ (e : Errand) (begin : Counts) (same_service : e.service ≡ service) (same_input : e.input ≡ input) (tells : TellsAs e.clock told) where
+    module _ (e : Errand) (begin : Counts) (same_behavior : e.behavior ≡ behavior) (same_input : e.input ≡ input) (tells : TellsAs e.clock told) where
       -- one strike is isolated
 
       abbrev IsKnown : On S → Type 0
       IsKnown a = LendsWanted a.traversal.walk a.lent × Facts e a.traversal (lent_words a.lent) begin (counts a.core)
 
-      makes_isolated : IsTrusted e → (a b : On S) (s : Turned) → Makes gives counts told service input a b s → (counts b.core).struck ≤ begin.struck + 1 → IsKnown a →
+      makes_isolated : IsTrusted e → (a b : On S) (s : Turned) → Makes gives counts told behavior input a b s → (counts b.core).struck ≤ begin.struck + 1 → IsKnown a →
           Isolates e a.traversal b.traversal a.lent b.lent begin (counts b.core) s.want s.state
       makes_isolated trusted a b s m few known =
           subst (λ (w : Want). Isolates e a.traversal b.traversal a.lent b.lent begin (counts b.core) w s.state) (sym m.want)
-          (isolates_one gives counts law told e begin a.traversal b.traversal a.lent b.lent s.state a.core b.core service input same_service same_input m.turned m.lent m.space m.steps m.sealed trusted tells known.0 known.1 few)
+          (isolates_one gives counts law told e begin a.traversal b.traversal a.lent b.lent s.state a.core b.core behavior input same_behavior same_input m.turned m.lent m.space m.steps m.sealed trusted tells known.0 known.1 few)
 
       quiet_known : IsTrusted e → (a b : On S) → IsQuiet a b → (counts b.core).struck ≤ begin.struck + 1 → IsKnown a → IsKnown b
       quiet_known trusted a b q few known = let i = makes_isolated trusted a b (record { want = Nothing; state = Went }) q few known in (i.lends refl, i.goes)
 
-      pub run_isolated : (n : ℕ) (x z : On S) (t : Turned) → IsTrusted e → (r : RunsOn gives counts told service input n x z t) → LendsWanted x.traversal.walk x.lent → Facts e x.traversal (lent_words x.lent) begin (counts x.core) →
+      pub run_isolated : (n : ℕ) (x z : On S) (t : Turned) → IsTrusted e → (r : RunsOn gives counts told behavior input n x z t) → LendsWanted x.traversal.walk x.lent → Facts e x.traversal (lent_words x.lent) begin (counts x.core) →
           (counts z.core).struck ≤ begin.struck + 1 → Isolates e r.last.traversal z.traversal r.last.lent z.lent begin (counts z.core) t.want t.state
       run_isolated n x z t trusted r lends facts few =
           let last = chain_isolates IsQuiet IsKnown (λ a. (counts a.core).struck) (begin.struck + 1) n x r.last (λ a b q. q.struck) (quiet_known trusted) r.chain (omega (arith, r.makes.struck, few)) (lends, facts) in
@@ -197,7 +198,7 @@ module _ {S : Type 0} (gives : S → (q : Question) → Answer q → S → Type 
 
       -- the steps of a run are steps of the traversal, and what each of them wanted is known
 
-      stepped : IsTrusted e → (wants : List Want) (a b : On S) (s : Turned) → Makes gives counts told service input a b s → (counts b.core).struck ≤ begin.struck + 1 → IsKnown a → Steps e begin wants a.traversal Went →
+      stepped : IsTrusted e → (wants : List Want) (a b : On S) (s : Turned) → Makes gives counts told behavior input a b s → (counts b.core).struck ≤ begin.struck + 1 → IsKnown a → Steps e begin wants a.traversal Went →
           Steps e begin (wants ++ s.want ∷ []) b.traversal s.state
       stepped trusted wants a b s m few known steps =
           let isolated = subst (λ (w : Want). Isolates e a.traversal b.traversal a.lent b.lent begin (counts b.core) w s.state) m.want (makes_isolated trusted a b s m few known) in
@@ -214,7 +215,7 @@ module _ {S : Type 0} (gives : S → (q : Question) → Answer q → S → Type 
                 (stepped trusted (wants ++ replicate n Nothing) y z (record { want = Nothing; state = Went }) q few before.0 before.1),
           )
 
-      pub run_stepped : (wants : List Want) (n : ℕ) (x z : On S) (t : Turned) → IsTrusted e → RunsOn gives counts told service input n x z t → LendsWanted x.traversal.walk x.lent → Facts e x.traversal (lent_words x.lent) begin (counts x.core) →
+      pub run_stepped : (wants : List Want) (n : ℕ) (x z : On S) (t : Turned) → IsTrusted e → RunsOn gives counts told behavior input n x z t → LendsWanted x.traversal.walk x.lent → Facts e x.traversal (lent_words x.lent) begin (counts x.core) →
           (counts z.core).struck ≤ begin.struck + 1 → Steps e begin wants x.traversal Went → Steps e begin ((wants ++ replicate n Nothing) ++ t.want ∷ []) z.traversal t.state
       run_stepped wants n x z t trusted r lends facts few steps =
           let before = chain_stepped trusted wants n x r.last r.chain (omega (arith, r.makes.struck, few)) (lends, facts) steps in
@@ -222,11 +223,11 @@ module _ {S : Type 0} (gives : S → (q : Question) → Answer q → S → Type 
 
       -- a traversal that is on its way stays on it
 
-      makes_on_way : IsErrand e → (a b : On S) (s : Turned) → Makes gives counts told service input a b s → Lends e a.traversal.walk.place.phase a.lent → OnWay e a.traversal (lent_words a.lent) begin (counts a.core) →
+      makes_on_way : IsErrand e → (a b : On S) (s : Turned) → Makes gives counts told behavior input a b s → Lends e a.traversal.walk.place.phase a.lent → OnWay e a.traversal (lent_words a.lent) begin (counts a.core) →
           StaysOnWay e a.traversal b.traversal (lent_words b.lent) begin (counts b.core) s.want s.state
       makes_on_way errand a b s m lends way =
           subst (λ (w : Want). StaysOnWay e a.traversal b.traversal (lent_words b.lent) begin (counts b.core) w s.state) (sym m.want)
-          (stays_on_way_given gives counts law told e begin a.traversal b.traversal a.lent b.lent s.state a.core b.core service input same_service same_input m.turned m.lent m.space m.steps errand tells lends way)
+          (stays_on_way_given gives counts law told e begin a.traversal b.traversal a.lent b.lent s.state a.core b.core behavior input same_behavior same_input m.turned m.lent m.space m.steps errand tells lends way)
 
       record IsOnWay (a : On S) : Type 0 where
         later : begin.struck ≤ (counts a.core).struck
@@ -243,7 +244,7 @@ module _ {S : Type 0} (gives : S → (q : Question) → Answer q → S → Type 
             way = λ same. (stays same).goes;
           }
 
-      pub run_on_way : (n : ℕ) (x z : On S) (t : Turned) → IsErrand e → (r : RunsOn gives counts told service input n x z t) → Lends e x.traversal.walk.place.phase x.lent → OnWay e x.traversal (lent_words x.lent) begin (counts x.core) →
+      pub run_on_way : (n : ℕ) (x z : On S) (t : Turned) → IsErrand e → (r : RunsOn gives counts told behavior input n x z t) → Lends e x.traversal.walk.place.phase x.lent → OnWay e x.traversal (lent_words x.lent) begin (counts x.core) →
           StaysOnWay e r.last.traversal z.traversal (lent_words z.lent) begin (counts z.core) t.want t.state
       run_on_way n x z t errand r lends way = by_strikes (same_or_more begin.struck (counts r.last.core).struck last.later)
         where

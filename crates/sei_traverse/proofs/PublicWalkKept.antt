@@ -28,7 +28,7 @@ use Rattle.sei_pass.specs.declared.given.Which.TheVariants.{Making, Reading}
 use Rattle.sei_pass.specs.declared.given.Sealed.{Sealed}
 use Rattle.sei_pass.specs.Setting.{sealed_call}
 use Rattle.sei_pass.specs.State.{PassState, IsPass}
-use Rattle.sei_pass.proofs.RoomLaws.{Keeps, keeps}
+use Rattle.sei_pass.proofs.Public.{Keeps, keeps}
 use Rattle.sei_restore.specs.Undoing.{Undone, undo_word, undo_at}
 use Rattle.sei_compare.specs.Comparing.{entry_tree, codes_tree, word_at, wire_tree}
 use Rattle.sei_traverse.specs.declared.turned.Want.{Want}
@@ -39,7 +39,7 @@ use Rattle.sei_traverse.specs.declared.walk.Walk.{Walk}
 use Rattle.sei_traverse.specs.Acts.{Acted, ends, at, closed_to, closing_then, closes}
 use Rattle.sei_traverse.specs.PassActs.{pass_of, first_machine, second_machine, with_first, with_second, first_from, first_to, first_tree, second_from, second_to, second_tree}
 use Rattle.sei_traverse.specs.Phases.{guard_call, store_wanted, take_wanted, undone_as, undone_to, compared, entries_to, outputs_to, word_to, reply_of, copy_bytes, wire_to, verify_copy, send_want}
-use Rattle.sei_traverse.specs.Service.{Given, setting_in}
+use Rattle.sei_traverse.specs.Given.{Given, setting_in}
 use Rattle.sei_traverse.specs.Step.{Turn, act_in, act_tree, site_of, skipped, goes, goes_on, once, unless_ended, twice, turn_as, turn_at, turn_tree}
 use Rattle.sei_traverse.specs.Walks.{IsWalk}
 use Rattle.sei_traverse.proofs.StepsBound.{always_bound, always_any}
@@ -252,7 +252,7 @@ module _ (k : PassSpace) (parsed : ℕ → Option Parsed) where
     second_onward v words Halted h = kept_closes Second v words Nothing (at Compare 0) h
     second_onward v words (Bad cause) h = h
 
-    kept_first : (g : Given) (now index : ℕ) (words : List ℕ) → g.space ≡ k → g.service.parsed g.input ≡ parsed → length words ≡ length before → Always KeptBy (first_tree g now index w words)
+    kept_first : (g : Given) (now index : ℕ) (words : List ℕ) → g.space ≡ k → g.behavior.parsed g.input ≡ parsed → length words ≡ length before → Always KeptBy (first_tree g now index w words)
     kept_first g now index words is of long =
         let s : Setting = setting_in g Making w.sealed now in
         always_bound (Ran (parsed_words (sealed_call parsed w.sealed.nth)) k.budget (first_machine w words)) KeptBy (step_tree s index (first_machine w words)) (first_to w)
@@ -260,7 +260,7 @@ module _ (k : PassSpace) (parsed : ℕ → Option Parsed) where
         (subst (λ (f : ℕ → Option Parsed). Always (Ran (parsed_words (sealed_call f w.sealed.nth)) k.budget (first_machine w words)) (step_tree s index (first_machine w words))) of
         (subst (λ (b : ℕ). Always (Ran (parsed_words s.parsed) b (first_machine w words)) (step_tree s index (first_machine w words))) (ap (λ (s : PassSpace). s.budget) is) (ran_step s index (first_machine w words))))
 
-    kept_second : (g : Given) (now index : ℕ) (words : List ℕ) → g.space ≡ k → g.service.parsed g.input ≡ parsed → length words ≡ length before → Always KeptBy (second_tree g now index w words)
+    kept_second : (g : Given) (now index : ℕ) (words : List ℕ) → g.space ≡ k → g.behavior.parsed g.input ≡ parsed → length words ≡ length before → Always KeptBy (second_tree g now index w words)
     kept_second g now index words is of long =
         let s : Setting = setting_in g Reading w.sealed now in
         always_bound (Ran (parsed_words (sealed_call parsed w.sealed.nth)) k.budget (second_machine w words)) KeptBy (step_tree s index (second_machine w words)) (second_to w)
@@ -329,7 +329,7 @@ module _ (k : PassSpace) (parsed : ℕ → Option Parsed) where
     kept_verify index words long false = behind_words index words long (index == length w.second_log.items)
 
     -- each act
-    kept_act : (g : Given) (now : ℕ) (phase : Phase) (index : ℕ) (words : List ℕ) → g.space ≡ k → g.service.parsed g.input ≡ parsed → length words ≡ length before → Always KeptBy (act_in g now phase index w words)
+    kept_act : (g : Given) (now : ℕ) (phase : Phase) (index : ℕ) (words : List ℕ) → g.space ≡ k → g.behavior.parsed g.input ≡ parsed → length words ≡ length before → Always KeptBy (act_in g now phase index w words)
     kept_act g now Guard index words is of long = λ yes. kept_guard g words long yes
     kept_act g now Take index words is of long = kept_take g words long (index == 0)
     kept_act g now First index words is of long = kept_first g now index words is of long
@@ -344,7 +344,7 @@ module _ (k : PassSpace) (parsed : ℕ → Option Parsed) where
 
   -- a whole step
 
-  module _ (w : Walk) (before : List ℕ) (g : Given) (here : g.space ≡ k) (of : g.service.parsed g.input ≡ parsed) where
+  module _ (w : Walk) (before : List ℕ) (g : Given) (here : g.space ≡ k) (of : g.behavior.parsed g.input ≡ parsed) where
     abbrev KeptOn : Turn → Type 0
     KeptOn x = KeepsWalk k parsed w before x.walk x.words
 
@@ -380,4 +380,4 @@ module _ (k : PassSpace) (parsed : ℕ → Option Parsed) where
     pub turn_kept : (now later : ℕ) → Always KeptOn (turn_tree g now later w before)
     turn_kept now later =
         let from : Walk = record w { want = Nothing } in
-        turn_at_kept now later from before (site_of g.service from) (like w from before before refl refl refl refl refl refl refl)
+        turn_at_kept now later from before (site_of g.behavior from) (like w from before before refl refl refl refl refl refl refl)

@@ -5,19 +5,19 @@ use Rattle.std.proofs.lemmas.Bool.{eqb-true, ltb-true, and_parts}
 use Rattle.sei_code.specs.Coded.{sealed, read_of, complement}
 use Rattle.sei_code.specs.declared.coded.Coded.{Coded}
 use Rattle.sei_log.specs.declared.notes.Notes.{Notes}
-use Rattle.sei_fault.specs.Tree.{honest, questions}
+use Rattle.sei_fault.specs.Tree.{honest}
+use Rattle.sei_fault.specs.Weights.{weighed}
 use Rattle.sei_stmt.specs.declared.stmt.Stmt.{Stmt}
 use Rattle.sei_stmt.specs.declared.stmt.Stmt.TheVariants.{Input, Emit, Now, Alloc, Parse, Render, Halt}
-use Rattle.sei_stmt.specs.Asked.{making, first_asked}
+use Rattle.sei_stmt.specs.Weights.{making, first_weighed, weighed_in}
 use Rattle.sei_stmt.specs.Machine.{Machine, Setting, Outcome, After, register, one_made}
 use Rattle.sei_stmt.specs.Machine.Outcome.{Next, Halted, Bad}
 use Rattle.sei_stmt.specs.Passes.{notes_of}
 use Rattle.sei_stmt.specs.Slots.{is_admissible}
 use Rattle.sei_stmt.specs.Statements.{noted_value, noted_now, fit_if, noted_slot_value, noted_slot, statement_tree, count_if, found_tree, step_tree}
-use Rattle.sei_stmt.specs.Honest.{after, onward, onward_from, asked_in, HonestRun}
+use Rattle.sei_stmt.specs.Honest.{after, onward, onward_from, HonestRun}
 use Rattle.sei_stmt.specs.Order.{only, stage_behind, stage_behind_found, stage_onward, stage_after}
-use Rattle.sei_stmt.proofs.HonestLaws.{halts_or_aborts}
-use Rattle.sei_stmt.proofs.Relog.{IsGoing}
+use Rattle.sei_stmt.proofs.Public.{halts_or_aborts, IsGoing}
 use Rattle.sei_stmt.proofs.PublicStatementRuns.{by_statements}
 use Rattle.sei_traverse.specs.Comes.{again, renoted, renoted_end}
 use Rattle.sei_traverse.proofs.NoteLaws.{Kind, kind, read_sealed}
@@ -166,30 +166,30 @@ halting_goes g start end steps run n = going_by g start end steps n run (after g
 -- the questions of a first pass do not depend on notes
 
 asked_kinds : (g : Setting) (k : Notes) (i : ℕ) (m : Machine) (s : Stmt) → Kind (making g) k i m s → Kind (making g) k i (renoted k m) s →
-    questions (statement_tree (making g) i m s) ≡ questions (statement_tree (making g) i (renoted k m) s)
-asked_kinds g k i m s (Timing to is) other = subst (λ s. questions (statement_tree (making g) i m s) ≡ questions (statement_tree (making g) i (renoted k m) s)) (sym is) refl
-asked_kinds g k i m s (Slotting to moment is) other = subst (λ s. questions (statement_tree (making g) i m s) ≡ questions (statement_tree (making g) i (renoted k m) s)) (sym is) refl
-asked_kinds g k i m s (Plain r) (Timing to is) = subst (λ s. questions (statement_tree (making g) i m s) ≡ questions (statement_tree (making g) i (renoted k m) s)) (sym is) refl
-asked_kinds g k i m s (Plain r) (Slotting to moment is) = subst (λ s. questions (statement_tree (making g) i m s) ≡ questions (statement_tree (making g) i (renoted k m) s)) (sym is) refl
+    weighed (statement_tree (making g) i m s) ≡ weighed (statement_tree (making g) i (renoted k m) s)
+asked_kinds g k i m s (Timing to is) other = subst (λ s. weighed (statement_tree (making g) i m s) ≡ weighed (statement_tree (making g) i (renoted k m) s)) (sym is) refl
+asked_kinds g k i m s (Slotting to moment is) other = subst (λ s. weighed (statement_tree (making g) i m s) ≡ weighed (statement_tree (making g) i (renoted k m) s)) (sym is) refl
+asked_kinds g k i m s (Plain r) (Timing to is) = subst (λ s. weighed (statement_tree (making g) i m s) ≡ weighed (statement_tree (making g) i (renoted k m) s)) (sym is) refl
+asked_kinds g k i m s (Plain r) (Slotting to moment is) = subst (λ s. weighed (statement_tree (making g) i m s) ≡ weighed (statement_tree (making g) i (renoted k m) s)) (sym is) refl
 asked_kinds g k i m s (Plain r) (Plain q) = sym r.asked ∙ q.asked
 
-asked_step : (g : Setting) (k : Notes) (i : ℕ) (m : Machine) → questions (step_tree (making g) i m) ≡ questions (step_tree (making g) i (renoted k m))
+asked_step : (g : Setting) (k : Notes) (i : ℕ) (m : Machine) → weighed (step_tree (making g) i m) ≡ weighed (step_tree (making g) i (renoted k m))
 asked_step g k i m =
-    by_statements false g.now (λ log. log) (λ notes. k) (making g) i m (λ a b. questions a ≡ questions b) (λ cause. refl)
+    by_statements false g.now (λ log. log) (λ notes. k) (making g) i m (λ a b. weighed a ≡ weighed b) (λ cause. refl)
     (λ s is. asked_kinds g k i (one_made m) s (kind (making g) k i _ s) (kind (making g) k i _ s))
 
-asked_alike : (g : Setting) (k : Notes) (m : Machine) (o : Outcome) → asked_in (making g) m o ≡ asked_in (making g) (renoted k m) o
+asked_alike : (g : Setting) (k : Notes) (m : Machine) (o : Outcome) → weighed_in (making g) m o ≡ weighed_in (making g) (renoted k m) o
 asked_alike g k m (Next i) = asked_step g k i m
 asked_alike g k m Halted = refl
 asked_alike g k m (Bad cause) = refl
 
 -- two runs that are one but for their notes count the same questions of a first pass
-pub alike_asked : (g : Setting) (k : Notes) (start other : Machine) → ((n : ℕ) → after g other n ≡ renoted_end k (after g start n)) → (n : ℕ) → first_asked g start n ≡ first_asked g other n
+pub alike_asked : (g : Setting) (k : Notes) (start other : Machine) → ((n : ℕ) → after g other n ≡ renoted_end k (after g start n)) → (n : ℕ) → first_weighed g start n ≡ first_weighed g other n
 alike_asked g k start other same zero = refl
 alike_asked g k start other same (suc n) =
     let x : After = after g start n in
-    let one : asked_in (making g) (after g other n).machine (after g other n).outcome ≡ asked_in (making g) (renoted k x.machine) x.outcome =
-    ap (λ (y : After). asked_in (making g) y.machine y.outcome) (same n) in
+    let one : weighed_in (making g) (after g other n).machine (after g other n).outcome ≡ weighed_in (making g) (renoted k x.machine) x.outcome =
+    ap (λ (y : After). weighed_in (making g) y.machine y.outcome) (same n) in
     omega (arith, alike_asked g k start other same n, one, asked_alike g k x.machine x.outcome)
 
 -- a pass that is finished has taken the time

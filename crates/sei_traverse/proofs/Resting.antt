@@ -3,15 +3,15 @@ use Rattle.std.proofs.Common.{◌≡◌, ℕ, List, Option, sym, subst}
 use Rattle.sei_fault.specs.declared.place.Phase.{Phase}
 use Rattle.sei_fault.specs.Question.{Question, Answer}
 use Rattle.sei_fault.specs.Tree.{Runs, bound}
-use Rattle.sei_fault.proofs.Runs.{runs_bound}
+use Rattle.sei_fault.proofs.Public.{runs_bound}
 use Rattle.sei_pass.specs.declared.loops.Exit.{Exit}
-use Rattle.sei_pass.proofs.StepLaws.{some_answer}
+use Rattle.sei_pass.proofs.Public.{some_answer}
 use Rattle.sei_traverse.specs.declared.turned.Want.TheVariants.{Nothing}
 use Rattle.sei_traverse.specs.declared.walk.Ending.{Ending}
 use Rattle.sei_traverse.specs.declared.walk.Walk.{Walk}
 use Rattle.sei_traverse.specs.Acts.{acted, at, closes}
 use Rattle.sei_traverse.specs.Running.{rest}
-use Rattle.sei_traverse.specs.Service.{Given}
+use Rattle.sei_traverse.specs.Given.{Given}
 use Rattle.sei_traverse.specs.Step.{Turn, next_phase, goes_from, goes_on, TimedTwice}
 
 module _ {S : Type 0} (gives : S → (q : Question) → Answer q → S → Type 0) (w : Walk) (words : List ℕ) where

@@ -13,22 +13,22 @@ use Rattle.sei_pass.specs.Setting.{is_intact}
 use Rattle.sei_pass.specs.Spaces.{space_in}
 use Rattle.sei_traverse.specs.Comes.{at_time, EndsAt}
 use Rattle.sei_traverse.specs.Errand.{Errand, first_setting, first_start, no_notes, given_in}
-use Rattle.sei_traverse.specs.Service.{call_of}
+use Rattle.sei_traverse.specs.Given.{call_of}
 
 module _ {B : Type 0} (space : List ℕ → ℕ → Space) (Before Stands : List ℕ → B → Type 0) (answer : List ℕ → ℕ → B → ℕ → B × List ℕ) (e : Errand) where
   -- each pass of the errand's call serves, in the errand's space
-  pub serves_at : IsSound e.service.statements e.service.parsed e.service.rendered space Before Stands answer → All (λ b. b < 256) e.input →
-      (nth : ℕ) → e.service.parsed e.input nth ≡ Some e.call → space e.input nth ≡ space_in e.space →
-      (g : Setting) → IsPassOf e.service.statements e.service.rendered (space_in e.space) g → IsServed g e.call →
+  pub serves_at : IsSound e.behavior space Before Stands answer → All (λ b. b < 256) e.input →
+      (nth : ℕ) → e.behavior.parsed e.input nth ≡ Some e.call → space e.input nth ≡ space_in e.space →
+      (g : Setting) → IsPassOf e.behavior.statements e.behavior.rendered (space_in e.space) g → IsServed g e.call →
       (held : B) → Before e.taken held → (now : ℕ) → now < 2 ^ 64 → (notes : Notes) → IsTold g now notes →
       Serves g (λ ws. Stands ws (answer e.input nth held now).0) (answer e.input nth held now).1 (beginning (space_in e.space).rooms e.taken notes)
   serves_at sound bytes nth parsed has g pass served held begins now small notes told =
       subst (λ (x : Space). Serves g (λ ws. Stands ws (answer e.input nth held now).0) (answer e.input nth held now).1 (beginning x.rooms e.taken notes)) has
-      (sound.serves e.input bytes nth e.call parsed g (subst (λ (x : Space). IsPassOf e.service.statements e.service.rendered x g) (sym has) pass) served e.taken held begins now small notes told)
+      (sound.serves e.input bytes nth e.call parsed g (subst (λ (x : Space). IsPassOf e.behavior.statements e.behavior.rendered x g) (sym has) pass) served e.taken held begins now small notes told)
 
   -- each honest first pass of a fit input ends well
-  pub ends_at : IsSound e.service.statements e.service.parsed e.service.rendered space Before Stands answer → All (λ b. b < 256) e.input →
-      (nth : ℕ) → e.service.parsed e.input nth ≡ Some e.call → space e.input nth ≡ space_in e.space → is_intact e.sealed e.input ≡ true → call_of (given_in e) e.sealed ≡ Some e.call →
+  pub ends_at : IsSound e.behavior space Before Stands answer → All (λ b. b < 256) e.input →
+      (nth : ℕ) → e.behavior.parsed e.input nth ≡ Some e.call → space e.input nth ≡ space_in e.space → is_intact e.sealed e.input ≡ true → call_of (given_in e) e.sealed ≡ Some e.call →
       (held : B) → Before e.taken held → (now : ℕ) → now < 2 ^ 64 → EndsAt (first_setting e) (first_start e) now
   ends_at sound bytes nth parsed has intact called held begins now small =
       by_end (serves_at sound bytes nth parsed has (at_time (first_setting e) now)

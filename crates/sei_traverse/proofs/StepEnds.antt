@@ -9,7 +9,7 @@ use Rattle.sei_fault.specs.declared.place.Place.{Place}
 use Rattle.sei_fault.specs.Phases.{phase_number}
 use Rattle.sei_fault.specs.Tree.{honest}
 use Rattle.sei_pass.specs.State.{PassState}
-use Rattle.sei_log.proofs.ChangeLaws.{equal_or}
+use Rattle.sei_log.proofs.Public.{equal_or}
 use Rattle.sei_traverse.specs.declared.turned.State.{State}
 use Rattle.sei_traverse.specs.declared.turned.State.TheVariants.{Went, Finished, Refused, Aborted}
 use Rattle.sei_traverse.specs.declared.turned.Want.TheVariants.{Nothing, Take as WantTake}

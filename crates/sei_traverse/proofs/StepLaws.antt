@@ -8,8 +8,9 @@ use Rattle.sei_fault.specs.declared.place.Phase.TheVariants.{Guard, Take, First,
 use Rattle.sei_fault.specs.declared.place.Place.{Place}
 use Rattle.sei_fault.specs.Phases.{phase_number}
 use Rattle.sei_fault.specs.StruckRuns.{StruckRun}
-use Rattle.sei_fault.specs.Tree.{Tree, Always, honest, questions}
-use Rattle.sei_fault.proofs.Runs.{always_honest}
+use Rattle.sei_fault.specs.Tree.{Tree, Always, honest}
+use Rattle.sei_fault.specs.Weights.{weighed}
+use Rattle.sei_fault.proofs.Public.{always_honest}
 use Rattle.sei_gate.specs.Closing.{risen}
 use Rattle.sei_pass.specs.declared.given.Sealed.{Sealed}
 use Rattle.sei_pass.specs.Setting.{is_intact}
@@ -31,7 +32,7 @@ use Rattle.sei_traverse.proofs.ClosesNext.{ClosesNext}
 use Rattle.sei_traverse.proofs.ClosesNext.ClosesNext.{Stays, Closes}
 use Rattle.sei_traverse.specs.OnWay.{lent_words, LendsBucket, Lends, LendsBucketOf, LendsIn}
 use Rattle.sei_traverse.specs.Phases.{reply_of, send_want, done_tree}
-use Rattle.sei_traverse.specs.Service.{Given, given_of, has_sealed_call}
+use Rattle.sei_traverse.specs.Given.{Given, given_of, has_sealed_call}
 use Rattle.sei_traverse.specs.Step.{act_in, site_in}
 use Rattle.sei_traverse.specs.Struck.{IsAimed, IsHonestResult, On, HasCopyOfSome, StruckIn}
 use Rattle.sei_traverse.specs.Trusted.{PassesGuard, IsTrusted}
@@ -56,7 +57,7 @@ StruckLaw e phase = (now : ℕ) → now < 2 ^ 64 → Follows e.clock now → (w 
 abbrev pub HonestLaw : Errand → Phase → Type 0
 HonestLaw e phase = (now : ℕ) → now < 2 ^ 64 → Follows e.clock now → (w : Walk) (words : List ℕ) (asked : ℕ) → w.want ≡ Nothing → w.gate.done ≡ phase_number phase → w.sealed ≡ e.sealed →
     StruckIn e w (lent_in phase words) asked phase →
-    ActsWell e phase (asked + questions (act_in (given_for e phase w.wanted) now phase w.place.index w words))
+    ActsWell e phase (asked + weighed (act_in (given_for e phase w.wanted) now phase w.place.index w words))
     (honest (act_in (given_for e phase w.wanted) now phase w.place.index w words))
 
 -- an act that closed no phase and wants nothing more
@@ -85,11 +86,11 @@ pub record LendsRight (e : Errand) (p : Phase) (wanted : ℕ) (loan : Option Buc
 none_right : (e : Errand) (p : Phase) (wanted : ℕ) (loan : Option BucketWords) → loan ≡ None → given_for e p wanted ≡ given_with e None → ((words : List ℕ) → None ≡ lent_in p words) → LendsRight e p wanted loan
 none_right e p wanted loan h given left = subst (LendsRight e p wanted) (sym h) (record { given = given; left = left })
 
-bucket_right : (e : Errand) (p : Phase) (wanted : ℕ) (loan : Option BucketWords) → LendsBucketOf wanted loan → given_for e p wanted ≡ given_of e.service e.input e.space (Some wanted) →
+bucket_right : (e : Errand) (p : Phase) (wanted : ℕ) (loan : Option BucketWords) → LendsBucketOf wanted loan → given_for e p wanted ≡ given_of e.behavior e.input e.space (Some wanted) →
     ((words : List ℕ) → lent_in p words ≡ Some words) → LendsRight e p wanted loan
 bucket_right e p wanted None h given left = absurd h
 bucket_right e p wanted (Some b) h given left =
-    record { given = given ∙ ap (λ (n : ℕ). given_of e.service e.input e.space (Some n)) (sym h); left = λ words. sym (left words) }
+    record { given = given ∙ ap (λ (n : ℕ). given_of e.behavior e.input e.space (Some n)) (sym h); left = λ words. sym (left words) }
 
 pub lends_right : (e : Errand) (p : Phase) (wanted : ℕ) (loan : Option BucketWords) → LendsIn wanted p loan → LendsRight e p wanted loan
 lends_right e Guard wanted loan h = none_right e Guard wanted loan h refl (λ words. refl)
@@ -213,7 +214,7 @@ never_on g clock p index w words gate last to leads =
 pub data CleanAct (e : Errand) (now : ℕ) (w : Walk) (loan : Option BucketWords) (steps asked : ℕ) (p : Phase) : Type 0 where
   Goes : PassesGuard e → GoesOn e (given_with e loan) now p w (words_of loan) (left_of loan) steps asked → CleanAct e now w loan steps asked p
   Ends : PassesGuard e → p ≡ Done → Finishes e (given_with e loan) now p w (words_of loan) steps asked → CleanAct e now w loan steps asked p
-  Unfit : p ≡ Guard → IsUnfitInput e → site_in e.service w p w.place.index ≡ Some Plain → honest (act_in (given_with e loan) now p w.place.index w (words_of loan)) ≡ acted w (words_of loan) Refuses →
+  Unfit : p ≡ Guard → IsUnfitInput e → site_in e.behavior w p w.place.index ≡ Some Plain → honest (act_in (given_with e loan) now p w.place.index w (words_of loan)) ≡ acted w (words_of loan) Refuses →
       CleanAct e now w loan steps asked p
 
 -- where a traversal stands that nothing struck

@@ -16,18 +16,16 @@ use Rattle.sei_fault.specs.declared.place.Place.{Place}
 use Rattle.sei_fault.specs.declared.place.Times.{Times}
 use Rattle.sei_fault.specs.declared.place.Times.TheVariants.{Once, Skip, Twice}
 use Rattle.sei_fault.specs.Tree.{Tree, Runs, any_core, honest, bound, Always}
-use Rattle.sei_fault.proofs.Bound.{honest_bound}
-use Rattle.sei_fault.proofs.Runs.{counted_runs, always, always_map, always_honest}
-use Rattle.sei_fault.proofs.Strikes.{never_falls, core_room_left}
+use Rattle.sei_fault.proofs.Public.{honest_bound, counted_runs, always, always_map, always_honest, never_falls, core_room_left}
 use Rattle.sei_gate.specs.Closing.{risen}
 use Rattle.sei_stmt.specs.Handling.{parsed_words}
 use Rattle.sei_stmt.specs.Machine.{Machine, Setting, Outcome, After, one_made}
 use Rattle.sei_stmt.specs.Machine.Outcome.{Next, Halted, Bad}
 use Rattle.sei_stmt.specs.Statements.{statement_tree, step_tree}
 use Rattle.sei_stmt.proofs.PublicStatementEnds.{by_statement}
-use Rattle.sei_stmt.proofs.Relog.{IsGoing}
+use Rattle.sei_stmt.proofs.Public.{IsGoing}
 use Rattle.sei_pass.specs.declared.given.Which.TheVariants.{Making, Reading}
-use Rattle.sei_pass.proofs.RoomLaws.{Keeps, keeps}
+use Rattle.sei_pass.proofs.Public.{Keeps, keeps}
 use Rattle.sei_restore.specs.Undoing.{undo_at}
 use Rattle.sei_compare.specs.Comparing.{entry_tree, codes_tree, word_at, wire_tree}
 use Rattle.sei_traverse.specs.declared.turned.State.{State}
@@ -41,7 +39,7 @@ use Rattle.sei_traverse.specs.Acts.{Acted, acted, ends, at, closed_to, closing_t
 use Rattle.sei_traverse.specs.Bounds.{place_number, last_number, made_by, reached, most_steps, StepsWithin, StepsAfter}
 use Rattle.sei_traverse.specs.PassActs.{first_machine, second_machine, with_first, with_second, first_from, first_to, first_tree, second_from, second_to, second_tree}
 use Rattle.sei_traverse.specs.Phases.{guard_call, store_wanted, take_wanted, undone_as, undone_to, compared, entries_to, outputs_to, word_to, reply_of, copy_bytes, wire_to, verify_copy, send_want}
-use Rattle.sei_traverse.specs.Service.{Given, setting_in}
+use Rattle.sei_traverse.specs.Given.{Given, setting_in}
 use Rattle.sei_traverse.specs.State.{TraversalState, IsTraversal, begun_traversal, one_more}
 use Rattle.sei_pass.specs.declared.given.Sealed.{Sealed}
 use Rattle.sei_traverse.specs.Step.{Turn, turn, act_in, act_tree, site_of, is_end, arrival, goes, goes_from, goes_on, once, unless_ended, twice, turn_as, turn_at, turn_tree, TimedTwice}
@@ -359,13 +357,13 @@ module _ (g : Given) (words left : List ℕ) (state : State) (now later : ℕ) (
       let same : turn new.walk left state ≡ honest tree = (clean_run g now later old.walk words c d (turn new.walk left state) run none).0 in
       let on : (honest tree).state ≡ Went = sym (ap (λ (x : Turn). x.state) same) ∙ went in
       subst (λ (x : Turn). reached old.space old.walk < reached old.space x.walk) (sym same)
-      (site_up old.space g now later (unwanting old.walk) words (site_of g.service (unwanting old.walk)) (record { first_log = (fits_of old is).first_log; second_log = (fits_of old is).second_log }) on)
+      (site_up old.space g now later (unwanting old.walk) words (site_of g.behavior (unwanting old.walk)) (record { first_log = (fits_of old is).first_log; second_log = (fits_of old is).second_log }) on)
 
   -- and with one not much less far
   not_much_less : reached old.space old.walk ≤ reached old.space new.walk + last_number old.space
   not_much_less =
       let made : made_by old.walk ≤ made_by new.walk =
-      always any_core (Remade (unwanting old.walk)) tree c d (turn new.walk left state) (turn_made g now later (unwanting old.walk) words (site_of g.service (unwanting old.walk))) run in
+      always any_core (Remade (unwanting old.walk)) tree c d (turn new.walk left state) (turn_made g now later (unwanting old.walk) words (site_of g.behavior (unwanting old.walk))) run in
       omega (arith, made, number_within old.space old.walk.place.phase old.walk.place.index)
 
   -- a step that goes on keeps the bound

@@ -2,26 +2,29 @@
 use Rattle.std.proofs.Common.{◌≡◌, ◌≢◌, inl, inr, ℕ, ◌+◌, ◌<◌, ◌≤◌, Bool, true, false, List, slice_get, Option, Some, None, ap, sym, ◌∙◌, arith, refl, subst}
 use Rattle.std.specs.Prelude.{if◌then◌else◌, nat_lt}
 use Rattle.std.proofs.lemmas.Bool.{ltb-false}
-use Rattle.sei_log.specs.Changes.{applied, Stands, SameOff}
+use Rattle.sei_log.specs.Changes.{Stands, SameOff}
 use Rattle.sei_log.specs.declared.log.Change.{Change}
 use Rattle.sei_log.specs.declared.notes.Notes.{Notes}
-use Rattle.sei_log.proofs.ChangeLaws.{applied_off, changes_ext, get_past, lt_or}
+use Rattle.sei_log.proofs.Public.{applied_off, get_past, lt_or}
 use Rattle.sei_gate.specs.Closing.{risen}
 use Rattle.sei_fault.specs.declared.cause.AbortCause.{AbortCause}
 use Rattle.sei_fault.specs.declared.place.Phase.TheVariants.{Compare, Verify}
 use Rattle.sei_fault.specs.declared.place.Place.{Place}
 use Rattle.sei_fault.specs.Phases.{phase_number}
-use Rattle.sei_fault.specs.Tree.{Tree, Always, honest, questions, bound}
-use Rattle.sei_fault.proofs.StruckRuns.{always_struck}
+use Rattle.sei_fault.specs.Tree.{Tree, Always, honest, bound}
+use Rattle.sei_fault.specs.Weights.{weighed}
+use Rattle.sei_fault.proofs.Public.{always_struck}
 use Rattle.sei_compare.specs.Comparing.{same_change, entry_tree, same_reply, codes_tree}
-use Rattle.sei_compare.proofs.CompareLaws.{same_change-one, same_reply-one}
+use Rattle.sei_compare.proofs.Public.{same_change-one, same_reply-one}
 use Rattle.sei_stmt.specs.Machine.{Machine, Outcome, After}
 use Rattle.sei_stmt.specs.Machine.Outcome.{Halted}
-use Rattle.sei_stmt.proofs.Invariant.{Keeps, keeps}
+use Rattle.sei_stmt.proofs.Public.{Keeps, keeps}
 use Rattle.sei_pass.specs.State.{PassState}
 use Rattle.sei_traverse.specs.declared.turned.Want.TheVariants.{Nothing}
 use Rattle.sei_traverse.specs.declared.walk.Ending.TheVariants.{Leads, Aborts}
 use Rattle.sei_traverse.specs.declared.walk.Walk.{Walk}
+use Rattle.sei_traverse.specs.Alike.{AlikeAt, AlikeLogs}
+use Rattle.sei_traverse.proofs.AlikeLaws.{alike_itself, applied_alike, alike_stands, alike_back}
 use Rattle.sei_traverse.specs.Acts.{Acted, acted, at, closes}
 use Rattle.sei_traverse.specs.Errand.{Errand}
 use Rattle.sei_traverse.specs.Phases.{compared, compare_tree, entries_to, outputs_to, reply_of}
@@ -50,6 +53,7 @@ answers_like e w v words asked more like second le a = record {
   made = a.made;
   noted = ap (λ (n : Notes). n.now) like.notes ∙ a.noted;
   small = a.small;
+  told = a.told;
   run = a.run;
   words_are = a.words_are;
   reply = ap (λ (p : PassState). p.bytes.items) second ∙ a.reply;
@@ -76,26 +80,27 @@ second_at e w to words o asked more le (Struck end was off) =
 -- The logs.
 
 -- what is tested to be the same is the same
-same_entry : (a b : Option Change) → same_change a b ≡ true → a ≡ b
-same_entry a b h = let one = same_change-one a b h in one.1 ∙ sym one.2
+same_entry : (a b : Option Change) → same_change a b ≡ true → AlikeAt a b
+same_entry a b h = let one = same_change-one a b h in subst (λ (o : Option Change). AlikeAt a o) (one.1 ∙ sym one.2) (alike_itself a)
 
 -- one entry more is the same
-below_one : (one two : List Change) (index : ℕ) → ((place : ℕ) → place < index → slice_get one place ≡ slice_get two place) → slice_get one index ≡ slice_get two index →
-    (place : ℕ) → place < index + 1 → slice_get one place ≡ slice_get two place
+below_one : (one two : List Change) (index : ℕ) → ((place : ℕ) → place < index → AlikeAt (slice_get one place) (slice_get two place)) → AlikeAt (slice_get one index) (slice_get two index) →
+    (place : ℕ) → place < index + 1 → AlikeAt (slice_get one place) (slice_get two place)
 below_one one two index below here place h = elim (lt_or place index) [
   | inl less ↦ below place less
   | inr more ↦
       let same : index ≡ place = omega (arith, h, more) in
-      subst (λ (n : ℕ). slice_get one n ≡ slice_get two n) same here
+      subst (λ (n : ℕ). AlikeAt (slice_get one n) (slice_get two n)) same here
 ]
 
 -- where all entries are the same, the logs are
 compared_all : (w : Walk) (index : ℕ) → compared w ≤ index →
-    ((place : ℕ) → place < index → slice_get w.first_log.items place ≡ slice_get w.second_log.items place) → w.first_log.items ≡ w.second_log.items
-compared_all w index all below = changes_ext w.first_log.items w.second_log.items (λ place. elim (lt_or place index) [
+    ((place : ℕ) → place < index → AlikeAt (slice_get w.first_log.items place) (slice_get w.second_log.items place)) → AlikeLogs w.first_log.items w.second_log.items
+compared_all w index all below = λ place. elim (lt_or place index) [
   | inl less ↦ below place less
-  | inr more ↦ get_past w.first_log.items place (omega (arith, all, more)) ∙ sym (get_past w.second_log.items place (omega (arith, all, more)))
-])
+  | inr more ↦ subst (λ (o : Option Change). AlikeAt (slice_get w.first_log.items place) o)
+      (get_past w.first_log.items place (omega (arith, all, more)) ∙ sym (get_past w.second_log.items place (omega (arith, all, more)))) (alike_itself (slice_get w.first_log.items place))
+]
 
 -- Behind equal logs and equal outputs.
 
@@ -105,7 +110,7 @@ second_keeps e w found words o n comes =
     subst (λ (x : After). Keeps found x.machine.log.items x.machine.words) comes (keeps (setting_on e w.wanted) (start_on e found w.notes) refl n)
 
 module _ (e : Errand) (trusted : IsTrusted e) (w : Walk) (words : List ℕ) (asked more : ℕ) (le : asked ≤ more)
-    (logs : w.first_log.items ≡ w.second_log.items) (outputs : w.first.bytes.items ≡ reply_of w) where
+    (logs : AlikeLogs w.first_log.items w.second_log.items) (outputs : w.first.bytes.items ≡ reply_of w) where
   abbrev verified : Walk
   verified = record (closed w) { place = at Verify 0 }
 
@@ -114,7 +119,7 @@ module _ (e : Errand) (trusted : IsTrusted e) (w : Walk) (words : List ℕ) (ask
       words ≡ end.words
   misread_words end was found off n comes =
       sym (second_keeps e w found words Halted n comes).apply
-      ∙ ap (λ (l : List Change). applied l found) (sym logs)
+      ∙ sym (applied_alike w.first_log.items w.second_log.items found logs)
       ∙ applied_off w.first_log.items found e.taken off
       ∙ was.applies
 
@@ -129,9 +134,13 @@ module _ (e : Errand) (trusted : IsTrusted e) (w : Walk) (words : List ℕ) (ask
       (found : List ℕ) → slice_get found c.address ≢ Some c.was → (n : ℕ) → ComesOn e w found words Halted n → ⊥
   damaged_never end was place c s found other n comes =
       let distinct = honest_distinct e w end asked was in
-      other ((second_keeps e w found words Halted n comes).firsts place c (subst (λ (l : List Change). Stands l place c) logs s)
+      let twin = alike_stands w.first_log.items w.second_log.items place c logs s in
+      other (ap (slice_get found) twin.2.address
+      ∙ (second_keeps e w found words Halted n comes).firsts place twin.0 twin.1
       (λ q d before t same.
-      let twice = distinct.distinct place q c d s (subst (λ (l : List Change). Stands l q d) (sym logs) t) same in omega (arith, before, twice)))
+      let back = alike_back w.first_log.items w.second_log.items q d logs t in
+      let twice = distinct.distinct place q c back.0 s back.1 (twin.2.address ∙ same ∙ sym back.2.address) in omega (arith, before, twice))
+      ∙ ap (λ (n : ℕ). let o : Option ℕ = Some n in o) (sym twin.2.was))
 
   words_after : SecondStruck e w words Halted asked → WordsStruck e verified words more
   words_after (Good small n comes asks) =
@@ -208,7 +217,7 @@ module _ (e : Errand) (w : Walk) (words : List ℕ) (asked more : ℕ) (le : ask
 
   module _ (trusted : IsTrusted e) where
     doubt_entry : SecondStruck e w words Halted asked →
-        ((place : ℕ) → place < w.place.index → slice_get w.first_log.items place ≡ slice_get w.second_log.items place) →
+        ((place : ℕ) → place < w.place.index → AlikeAt (slice_get w.first_log.items place) (slice_get w.second_log.items place)) →
         (same : Bool) → same_change (slice_get w.first_log.items w.place.index) (slice_get w.second_log.items w.place.index) ≡ same →
         ActsWell e Compare more (honest (entries_to w words w.place.index same))
     doubt_entry second below true h =
@@ -243,6 +252,6 @@ compare_laws e trusted = record {
       (struck_act e w words asked (asked + n) (omega arith) nothing clean.is.gate (answers_clean e trusted w words clean.time clean.made clean.end asked knows clean.both)
       (outputs_both e w (Some words) clean.time clean.made clean.end asked clean.both) (nat_lt w.place.index (compared w))) run;
   honest_on = λ now small told w words asked nothing gate sealed stands.
-      honest_act e w words asked (asked + questions (compare_tree w.place.index w words)) (omega arith) nothing gate trusted stands
+      honest_act e w words asked (asked + weighed (compare_tree w.place.index w words)) (omega arith) nothing gate trusted stands
       (nat_lt w.place.index (compared w)) refl;
 }

@@ -9,9 +9,9 @@ use Rattle.sei_fault.specs.declared.place.Phase.TheVariants.{Guard, Take, First,
 use Rattle.sei_fault.specs.declared.place.Place.{Place}
 use Rattle.sei_fault.specs.Phases.{phase_number}
 use Rattle.sei_fault.specs.StruckRuns.{StruckRun}
-use Rattle.sei_fault.specs.Tree.{Tree, questions, Always}
-use Rattle.sei_fault.proofs.Runs.{always_honest}
-use Rattle.sei_fault.proofs.StruckRuns.{always_struck}
+use Rattle.sei_fault.specs.Tree.{Tree, Always}
+use Rattle.sei_fault.specs.Weights.{weighed}
+use Rattle.sei_fault.proofs.Public.{always_honest, always_struck}
 use Rattle.sei_gate.specs.Closing.{risen}
 use Rattle.sei_log.specs.declared.notes.Notes.{Notes}
 use Rattle.sei_pass.specs.State.{PassState}
@@ -25,7 +25,7 @@ use Rattle.sei_traverse.specs.Errand.{Errand, Follows}
 use Rattle.sei_traverse.specs.Facts.{Knows, Wanted, closing_want}
 use Rattle.sei_traverse.proofs.ClosesNext.ClosesNext.{Stays, Closes, Lacks}
 use Rattle.sei_traverse.specs.Phases.{reply_of, guard_tree, guard_call, take_tree, take_wanted, store_wanted, send_want, enter_tree, give_tree, send_tree, done_tree}
-use Rattle.sei_traverse.specs.Service.{Given}
+use Rattle.sei_traverse.specs.Given.{Given}
 use Rattle.sei_traverse.specs.Step.{act_in}
 use Rattle.sei_traverse.specs.Struck.{IsAimed, IsHonestResult, StruckInTake, HasCopy, HasCopyOfSome, On}
 use Rattle.sei_traverse.specs.Trusted.{IsTrusted}
@@ -46,6 +46,7 @@ answers_at e w v words asked more wanted notes second le a = record {
   made = a.made;
   noted = ap (λ (n : Notes). n.now) notes ∙ a.noted;
   small = a.small;
+  told = a.told;
   run = a.run;
   words_are = a.words_are;
   reply = ap (λ (p : PassState). p.bytes.items) second ∙ a.reply;
@@ -196,8 +197,8 @@ take_laws e trusted = record {
       always_struck (ActsWell e Take (asked + n)) (take_tree (given_for e Take w.wanted) w.place.index w words) y n
       (take_always e (given_for e Take w.wanted) refl w words (asked + n) nothing i.is.gate (take_clean e w steps asked i) w.place.index) run;
   honest_on = λ now small told w words asked nothing gate sealed s.
-      always_honest (ActsWell e Take (asked + questions (take_tree (given_for e Take w.wanted) w.place.index w words))) (take_tree (given_for e Take w.wanted) w.place.index w words)
-      (take_always e (given_for e Take w.wanted) refl w words (asked + questions (take_tree (given_for e Take w.wanted) w.place.index w words)) nothing gate s w.place.index);
+      always_honest (ActsWell e Take (asked + weighed (take_tree (given_for e Take w.wanted) w.place.index w words))) (take_tree (given_for e Take w.wanted) w.place.index w words)
+      (take_always e (given_for e Take w.wanted) refl w words (asked + weighed (take_tree (given_for e Take w.wanted) w.place.index w words)) nothing gate s w.place.index);
 }
 
 -- Where both passes were honest
@@ -260,8 +261,8 @@ enter_laws e trusted = record {
       always_struck (ActsWell e Enter (asked + n)) (enter_tree w words) y n
       (enter_always e w words asked (asked + n) (no_less asked n) nothing i.is.gate (both_enter e trusted w (Some words) i.time i.made i.end asked knows i.both i.copy)) run;
   honest_on = λ now small told w words asked nothing gate sealed s.
-      always_honest (ActsWell e Enter (asked + questions (enter_tree w words))) (enter_tree w words)
-      (enter_always e w words asked (asked + questions (enter_tree w words)) (no_less asked (questions (enter_tree w words))) nothing gate s);
+      always_honest (ActsWell e Enter (asked + weighed (enter_tree w words))) (enter_tree w words)
+      (enter_always e w words asked (asked + weighed (enter_tree w words)) (no_less asked (weighed (enter_tree w words))) nothing gate s);
 }
 
 pub give_laws : (e : Errand) → IsTrusted e → PhaseLaws e Give
@@ -274,8 +275,8 @@ give_laws e trusted = record {
       always_struck (ActsWell e Give (asked + n)) (give_tree w words) y n
       (give_always e w words asked (asked + n) (no_less asked n) nothing i.is.gate (both_enter e trusted w (Some words) i.time i.made i.end asked knows i.both i.copy)) run;
   honest_on = λ now small told w words asked nothing gate sealed s.
-      always_honest (ActsWell e Give (asked + questions (give_tree w words))) (give_tree w words)
-      (give_always e w words asked (asked + questions (give_tree w words)) (no_less asked (questions (give_tree w words))) nothing gate s);
+      always_honest (ActsWell e Give (asked + weighed (give_tree w words))) (give_tree w words)
+      (give_always e w words asked (asked + weighed (give_tree w words)) (no_less asked (weighed (give_tree w words))) nothing gate s);
 }
 
 -- Send and Done
@@ -315,8 +316,8 @@ send_laws e trusted = record {
       always_struck (ActsWell e Send (asked + n)) (send_tree w words) y n
       (send_always e w words asked (asked + n) (no_less asked n) nothing i.is.gate (answers_answered e trusted w i.time i.made i.end asked knows i.answered)) run;
   honest_on = λ now small told w words asked nothing gate sealed s.
-      always_honest (ActsWell e Send (asked + questions (send_tree w words))) (send_tree w words)
-      (send_always e w words asked (asked + questions (send_tree w words)) (no_less asked (questions (send_tree w words))) nothing gate s);
+      always_honest (ActsWell e Send (asked + weighed (send_tree w words))) (send_tree w words)
+      (send_always e w words asked (asked + weighed (send_tree w words)) (no_less asked (weighed (send_tree w words))) nothing gate s);
 }
 
 pub done_laws : (e : Errand) → IsTrusted e → PhaseLaws e Done
@@ -327,6 +328,6 @@ done_laws e trusted = record {
       always_struck (ActsWell e Done (asked + n)) (done_tree w words) y n
       (done_always e w words asked (asked + n) (no_less asked n) nothing i.is.gate (answers_answered e trusted w i.time i.made i.end asked knows i.answered)) run;
   honest_on = λ now small told w words asked nothing gate sealed s.
-      always_honest (ActsWell e Done (asked + questions (done_tree w words))) (done_tree w words)
-      (done_always e w words asked (asked + questions (done_tree w words)) (no_less asked (questions (done_tree w words))) nothing gate s);
+      always_honest (ActsWell e Done (asked + weighed (done_tree w words))) (done_tree w words)
+      (done_always e w words asked (asked + weighed (done_tree w words)) (no_less asked (weighed (done_tree w words))) nothing gate s);
 }

@@ -7,23 +7,21 @@ use Rattle.sei_fault.specs.declared.cause.AbortCause.TheVariants.{Range}
 use Rattle.sei_fault.specs.declared.place.Phase.TheVariants.{First, Restore}
 use Rattle.sei_fault.specs.Phases.{phase_number}
 use Rattle.sei_fault.specs.StruckRuns.{StruckRun}
-use Rattle.sei_fault.specs.Tree.{Tree, honest, questions, bound}
-use Rattle.sei_fault.proofs.Bound.{honest_bound, questions_bound}
-use Rattle.sei_fault.proofs.StruckRuns.{StruckBound, struck_bound}
-use Rattle.sei_fault.proofs.StruckRuns.StruckBound.{Before, Behind}
+use Rattle.sei_fault.specs.Tree.{Tree, honest, bound}
+use Rattle.sei_fault.specs.Weights.{weighed}
+use Rattle.sei_fault.proofs.Public.{honest_bound, weighed_bound, StruckBound, struck_bound}
+use Rattle.sei_fault.proofs.PublicStruckRuns.StruckBound.{Before, Behind}
 use Rattle.sei_gate.specs.Closing.{risen}
 use Rattle.sei_log.specs.Changes.{change_of, undone, applied, SameOff}
 use Rattle.sei_log.specs.declared.log.Change.{Change}
-use Rattle.sei_log.proofs.ChangeLaws.{set_same, set_set, undone_push, applied_push, same_push, take_whole}
+use Rattle.sei_log.proofs.Public.{set_same, set_set, undone_push, applied_push, same_push, take_whole}
 use Rattle.sei_stmt.specs.Machine.{Machine, Setting, Outcome, After, with_words, one_made, stored, at_outcome}
 use Rattle.sei_stmt.specs.Machine.Outcome.{Next, Halted, Bad}
 use Rattle.sei_stmt.specs.Statements.{step_tree}
-use Rattle.sei_stmt.proofs.Effects.{Effect, HonestEffect, StruckEffect, honest_effect, keeps_honest, struck_effect}
-use Rattle.sei_stmt.proofs.Effects.Effect.{Untouched, Wrote}
-use Rattle.sei_stmt.proofs.Effects.HonestEffect.{Left, Changed}
-use Rattle.sei_stmt.proofs.Effects.StruckEffect.{Plain, Wrong}
-use Rattle.sei_stmt.proofs.Invariant.{Keeps, keeps}
-use Rattle.sei_stmt.proofs.Relog.{IsGoing, Relogs, relog, relog_asks}
+use Rattle.sei_stmt.proofs.Public.{Effect, HonestEffect, StruckEffect, honest_effect, keeps_honest, struck_effect, Keeps, keeps, IsGoing, Relogs, relog, relog_asks}
+use Rattle.sei_stmt.proofs.PublicEffects.Effect.{Untouched, Wrote}
+use Rattle.sei_stmt.proofs.PublicEffects.HonestEffect.{Left, Changed}
+use Rattle.sei_stmt.proofs.PublicEffects.StruckEffect.{Plain, Wrong}
 use Rattle.sei_pass.specs.declared.given.Sealed.{Sealed}
 use Rattle.sei_pass.specs.declared.given.Which.TheVariants.{Making}
 use Rattle.sei_pass.specs.State.{PassState}
@@ -38,9 +36,9 @@ use Rattle.sei_traverse.specs.Facts.{Wanted}
 use Rattle.sei_traverse.proofs.ClosesNext.{ClosesNext}
 use Rattle.sei_traverse.proofs.ClosesNext.ClosesNext.{Stays, Closes}
 use Rattle.sei_traverse.specs.PassActs.{asked_behind, pass_of, first_machine, with_first, first_from, first_to}
-use Rattle.sei_traverse.specs.Service.{given_of, setting_in}
+use Rattle.sei_traverse.specs.Given.{given_of, setting_in}
 use Rattle.sei_traverse.specs.Step.{act_in}
-use Rattle.sei_traverse.specs.Struck.{NotesSmall, relogged, IsAimed, IsMisread, FirstStruck, StruckInFirst, WasMisread, RestoreStruck}
+use Rattle.sei_traverse.specs.Struck.{IsNoted, relogged, IsAimed, IsMisread, FirstStruck, StruckInFirst, WasMisread, RestoreStruck}
 use Rattle.sei_traverse.specs.Struck.FirstStruck.{Restorable as Undoes, Misread as Misreads}
 use Rattle.sei_traverse.specs.Struck.RestoreStruck.{Restorable as StillUndoes, Misread as HasMisread}
 use Rattle.sei_traverse.specs.Trusted.{IsTrusted}
@@ -108,9 +106,9 @@ first_step e now i m = step_tree (at_time (first_setting e) now) i m
 
 module _ (e : Errand) (always : EndsAlways (first_setting e) (first_start e)) (n q i : ℕ) (m : Machine) (here : Came e n q (at_outcome m (Next i))) where
   -- it makes one statement more, whatever the clock answers
-  came_on : (now : ℕ) → now < 2 ^ 64 → Follows e.clock now → Came e (suc n) (q + questions (first_step e now i m)) (honest (first_step e now i m))
+  came_on : (now : ℕ) → now < 2 ^ 64 → Follows e.clock now → Came e (suc n) (q + weighed (first_step e now i m)) (honest (first_step e now i m))
   came_on now small told =
-      came_at e e.clock refl (suc n) (q + questions (first_step e now i m)) (honest (first_step e now i m)) here.comes.time now here.told told
+      came_at e e.clock refl (suc n) (q + weighed (first_step e now i m)) (honest (first_step e now i m)) here.comes.time now here.told told
       (comes_on (first_setting e) (first_start e) refl refl always n i q now m here.comes small)
       (λ same. agrees_on (first_setting e) refl now i m small (subst (λ (t : ℕ). Agrees m.notes.now t) same here.comes.agrees))
 
@@ -188,7 +186,7 @@ module _ (e : Errand) (w : Walk) (nothing : w.want ≡ Nothing) (gate : w.gate.d
   ends_so_by (Bad cause) next halts = wants_nothing e asked (acted (with_first w m) m.words (Aborts cause)) nothing (Stays gate nothing) tt
 
   -- where the log undoes what was changed, it may go on anywhere
-  undoes_on : (o : Outcome) → NotesSmall m.notes.now → undone m.log.items m.words ≡ e.taken → ActsWell e First asked (honest (first_from (with_first w m) m.words o))
+  undoes_on : (o : Outcome) → IsNoted e m.notes.now → undone m.log.items m.words ≡ e.taken → ActsWell e First asked (honest (first_from (with_first w m) m.words o))
   undoes_on o small u = ends_so_by o (λ index is. Undoes small u) (λ is. StillUndoes small (all_pending m.log.items m.words e.taken u))
 
 -- behind the closing test nothing is asked
@@ -196,7 +194,7 @@ closed_asks_no_more : (w : Walk) (words : List ℕ) (b : Bool) (done : ℕ) (y :
 closed_asks_no_more w words true done y n s = s
 closed_asks_no_more w words false done y n s = s
 
-module _ (e : Errand) (w : Walk) (nothing : w.want ≡ Nothing) (gate : w.gate.done ≡ phase_number First) (space : w.first.space ≡ e.space) (second : SecondIsNew e w) (m : Machine) (asked : ℕ) (small : NotesSmall m.notes.now) (u : undone m.log.items m.words ≡ e.taken) where
+module _ (e : Errand) (w : Walk) (nothing : w.want ≡ Nothing) (gate : w.gate.done ≡ phase_number First) (space : w.first.space ≡ e.space) (second : SecondIsNew e w) (m : Machine) (asked : ℕ) (small : IsNoted e m.notes.now) (u : undone m.log.items m.words ≡ e.taken) where
   -- a strike behind the statement falls on the closing test
   struck_behind : (o : Outcome) (y : Acted) (n : ℕ) → StruckRun (first_from (with_first w m) m.words o) y n → ActsWell e First asked y
   struck_behind (Next index) y n s = absurd s
@@ -216,8 +214,8 @@ clean_keeps : (e : Errand) (w : Walk) (words : List ℕ) (steps asked : ℕ) →
 clean_keeps e w words steps asked r =
     comes_keeps (first_setting e) (first_start e) r.made asked (at_outcome (first_machine w words) (Next w.place.index)) refl r.comes
 
-clean_small : (e : Errand) (w : Walk) (words : List ℕ) (steps asked : ℕ) → FirstRuns e w words steps asked → NotesSmall w.notes.now
-clean_small e w words steps asked r = small_agrees w.notes.now r.comes.time r.comes.agrees
+clean_small : (e : Errand) (w : Walk) (words : List ℕ) (steps asked : ℕ) → FirstRuns e w words steps asked → IsNoted e w.notes.now
+clean_small e w words steps asked r = small_agrees e w.notes.now r.comes.time r.told r.comes.agrees
 
 pub first_moved : (e : Errand) (w : Walk) (lent : Option (List ℕ)) (steps asked index : ℕ) → InFirst e w lent steps asked → StruckInFirst e (record w { place = at First index }) lent asked
 first_moved e w None steps asked index h = record {
@@ -235,8 +233,8 @@ first_moved e w (Some words) steps asked index h = record {
 given_step : (e : Errand) (now : ℕ) (w : Walk) (m : Machine) → w.sealed ≡ e.sealed → w.wanted ≡ e.call.bucket →
     step_tree (setting_in (given_for e First w.wanted) Making w.sealed now) w.place.index m ≡ first_step e now w.place.index m
 given_step e now w m sealed wanted =
-    ap (λ (s : Sealed). step_tree (setting_in (given_of e.service e.input e.space (Some w.wanted)) Making s now) w.place.index m) sealed
-    ∙ ap (λ (b : ℕ). step_tree (setting_in (given_of e.service e.input e.space (Some b)) Making e.sealed now) w.place.index m) wanted
+    ap (λ (s : Sealed). step_tree (setting_in (given_of e.behavior e.input e.space (Some w.wanted)) Making s now) w.place.index m) sealed
+    ∙ ap (λ (b : ℕ). step_tree (setting_in (given_of e.behavior e.input e.space (Some b)) Making e.sealed now) w.place.index m) wanted
 
 -- an old word was misread
 module _ (e : Errand) (w : Walk) (words : List ℕ) (aimed : IsAimed e w) (keep : Keeps e.taken w.first_log.items words) (a was v i n q asked : ℕ) (more : q ≤ asked) where
@@ -278,7 +276,7 @@ module _ (e : Errand) (always : EndsAlways (first_setting e) (first_start e)) (n
   clean_step = first_step e now w.place.index (first_machine w words)
 
   -- a strike in the statement
-  struck_before : (n : ℕ) (x : After) (k : ℕ) → k ≤ n → NotesSmall x.machine.notes.now → StruckEffect (at_time (first_setting e) now) w.place.index (first_machine w words) x k →
+  struck_before : (n : ℕ) (x : After) (k : ℕ) → k ≤ n → IsNoted e x.machine.notes.now → StruckEffect (at_time (first_setting e) now) w.place.index (first_machine w words) x k →
       ActsWell e First (asked + n) (honest (first_to w x))
   struck_before n x k le noted (Plain effect) =
       undoes_on e w nothing h.is.gate h.at.space h.second x.machine (asked + n) x.outcome noted
@@ -286,17 +284,17 @@ module _ (e : Errand) (always : EndsAlways (first_setting e) (first_start e)) (n
   struck_before n x k le noted (Wrong a word was v stood room is so many) =
       subst (λ (z : After). ActsWell e First (asked + n) (honest (first_to w z))) (sym is)
       (leads_on e w nothing h.is.gate h.at.space h.second (stored (one_made (first_machine w words)) a (change_of a was v) v) (asked + n) (w.place.index + 1)
-      (Misreads (misread_so e w words aimed (clean_keeps e w words steps asked h.at) a was v (w.place.index + 1) (suc h.at.made) (asked + questions clean_step) (asked + n)
+      (Misreads (misread_so e w words aimed (clean_keeps e w words steps asked h.at) a was v (w.place.index + 1) (suc h.at.made) (asked + weighed clean_step) (asked + n)
       (omega (arith, many, le)) word (honest clean_step) stood
       (came_on e always h.at.made asked w.place.index (first_machine w words) (came_clean e w words steps asked h.at) now small told) so)))
 
   struck_within : (y : Acted) (n : ℕ) → StruckBound clean_step (first_to w) y n → ActsWell e First (asked + n) y
   struck_within y n (Before x k s is many) =
       subst (λ (z : Acted). ActsWell e First (asked + n) z) (sym is)
-      (struck_before n x k (omega (arith, many)) (small_struck (first_setting e) now small w.place.index (first_machine w words) (clean_small e w words steps asked h.at) x k s) (struck_effect (at_time (first_setting e) now) w.place.index (first_machine w words) x k s))
+      (struck_before n x k (omega (arith, many)) (small_struck e (first_setting e) now small told w.place.index (first_machine w words) (clean_small e w words steps asked h.at) x k s) (struck_effect (at_time (first_setting e) now) w.place.index (first_machine w words) x k s))
   struck_within y n (Behind k s many) =
       struck_behind e w nothing h.is.gate h.at.space h.second (honest clean_step).machine (asked + n)
-      (small_honest (first_setting e) now small w.place.index (first_machine w words) (clean_small e w words steps asked h.at))
+      (small_honest e (first_setting e) now small told w.place.index (first_machine w words) (clean_small e w words steps asked h.at))
       (effect_undone e.taken (first_machine w words) (honest clean_step).machine (honest_effect (at_time (first_setting e) now) w.place.index (first_machine w words)) (clean_keeps e w words steps asked h.at).undo)
       (honest clean_step).outcome y k s
 
@@ -312,7 +310,7 @@ first_struck e trusted now small told w words steps asked n y nothing h aimed s 
 -- but for its log, a pass with a misread word does what an honest one does
 module _ (e : Errand) (always : EndsAlways (first_setting e) (first_start e)) (now : ℕ) (small : now < 2 ^ 64) (told : Follows e.clock now) (w : Walk) (words : List ℕ) (asked : ℕ)
     (nothing : w.want ≡ Nothing) (gate : w.gate.done ≡ phase_number First) (space : w.first.space ≡ e.space) (second : SecondIsNew e w) (h : IsMisread e w words asked) (total : ℕ)
-    (many : asked + (questions (first_step e now w.place.index (first_machine w words)) + asked_behind (honest (first_step e now w.place.index (first_machine w words))).outcome) ≤ total) where
+    (many : asked + (weighed (first_step e now w.place.index (first_machine w words)) + asked_behind (honest (first_step e now w.place.index (first_machine w words))).outcome) ≤ total) where
   abbrev misread_step : Tree After
   misread_step = first_step e now w.place.index (first_machine w words)
 
@@ -336,17 +334,17 @@ module _ (e : Errand) (always : EndsAlways (first_setting e) (first_start e)) (n
     relogs : Relogs (honest relogged_step) misread_end
     relogs = relog (at_time (first_setting e) now) w.place.index (first_machine w words) h.log h.room h.fewer going
 
-    asks_fewer : questions relogged_step ≤ questions misread_step
+    asks_fewer : weighed relogged_step ≤ weighed misread_step
     asks_fewer = relog_asks (at_time (first_setting e) now) w.place.index (first_machine w words) h.log h.room h.fewer going
 
     -- where the honest pass comes
-    came_relogged : Came e (suc h.made) (h.number + questions relogged_step) (at_outcome (relogged relogs.log misread_end.machine) misread_end.outcome)
+    came_relogged : Came e (suc h.made) (h.number + weighed relogged_step) (at_outcome (relogged relogs.log misread_end.machine) misread_end.outcome)
     came_relogged =
-        subst (λ (x : After). Came e (suc h.made) (h.number + questions relogged_step) x) relogs.same
+        subst (λ (x : After). Came e (suc h.made) (h.number + weighed relogged_step) x) relogs.same
         (came_on e always h.made h.number w.place.index (relogged h.log (first_machine w words)) came_here now small told)
 
-    came_in : (o : Outcome) → misread_end.outcome ≡ o → Came e (suc h.made) (h.number + questions relogged_step) (at_outcome (relogged relogs.log misread_end.machine) o)
-    came_in o is = subst (λ (p : Outcome). Came e (suc h.made) (h.number + questions relogged_step) (at_outcome (relogged relogs.log misread_end.machine) p)) is came_relogged
+    came_in : (o : Outcome) → misread_end.outcome ≡ o → Came e (suc h.made) (h.number + weighed relogged_step) (at_outcome (relogged relogs.log misread_end.machine) o)
+    came_in o is = subst (λ (p : Outcome). Came e (suc h.made) (h.number + weighed relogged_step) (at_outcome (relogged relogs.log misread_end.machine) p)) is came_relogged
 
     misreads_on : (index : ℕ) → misread_end.outcome ≡ Next index → IsMisread e (stepped w misread_end.machine index) misread_end.machine.words total
     misreads_on index is = record {
@@ -355,7 +353,7 @@ module _ (e : Errand) (always : EndsAlways (first_setting e) (first_start e)) (n
       room = relogs.room;
       fewer = relogs.fewer;
       made = suc h.made;
-      number = h.number + questions relogged_step;
+      number = h.number + weighed relogged_step;
       comes = (came_in (Next index) is).comes;
       told = (came_in (Next index) is).told;
       applies = applies_on;
@@ -365,13 +363,13 @@ module _ (e : Errand) (always : EndsAlways (first_setting e) (first_start e)) (n
 
     has_misread : misread_end.outcome ≡ Halted → WasMisread e (halted w misread_end.machine) (relogged relogs.log misread_end.machine) total
     has_misread is =
-        let c : Came e (suc h.made) (h.number + questions relogged_step) (at_outcome (relogged relogs.log misread_end.machine) Halted) = came_in Halted is in
+        let c : Came e (suc h.made) (h.number + weighed relogged_step) (at_outcome (relogged relogs.log misread_end.machine) Halted) = came_in Halted is in
         let one : asked_behind misread_end.outcome ≡ 1 = ap asked_behind is in
         record {
           aimed = record { fit = h.aimed.fit; wanted = h.aimed.wanted };
           time = c.comes.time;
           made = suc h.made;
-          whole = came_whole e always h.made h.number w.place.index (relogged h.log (first_machine w words)) came_here (h.number + questions relogged_step) (relogged relogs.log misread_end.machine) c;
+          whole = came_whole e always h.made h.number w.place.index (relogged h.log (first_machine w words)) came_here (h.number + weighed relogged_step) (relogged relogs.log misread_end.machine) c;
           first = ap (λ (g : PassSpace). let p : PassState = record (pass_of w.first misread_end.machine) { space = g } in p) space;
           notes = refl;
           applies = applies_on;
@@ -392,33 +390,33 @@ module _ (e : Errand) (now : ℕ) (w : Walk) (words : List ℕ) (asked : ℕ) (n
   abbrev given_tree : Tree After
   given_tree = step_tree (setting_in (given_for e First w.wanted) Making w.sealed now) w.place.index (first_machine w words)
 
-  undoes_honest : now < 2 ^ 64 → NotesSmall w.notes.now → undone w.first_log.items words ≡ e.taken → ActsWell e First (asked + questions (bound given_tree (first_to w))) (honest (bound given_tree (first_to w)))
-  undoes_honest small noted u =
-      subst (λ (y : Acted). ActsWell e First (asked + questions (bound given_tree (first_to w))) y) (sym (honest_bound given_tree (first_to w)))
-      (undoes_on e w nothing gate space second (honest given_tree).machine (asked + questions (bound given_tree (first_to w))) (honest given_tree).outcome
-      (small_honest (setting_in (given_for e First w.wanted) Making w.sealed now) now small w.place.index (first_machine w words) noted)
+  undoes_honest : now < 2 ^ 64 → Follows e.clock now → IsNoted e w.notes.now → undone w.first_log.items words ≡ e.taken → ActsWell e First (asked + weighed (bound given_tree (first_to w))) (honest (bound given_tree (first_to w)))
+  undoes_honest small told noted u =
+      subst (λ (y : Acted). ActsWell e First (asked + weighed (bound given_tree (first_to w))) y) (sym (honest_bound given_tree (first_to w)))
+      (undoes_on e w nothing gate space second (honest given_tree).machine (asked + weighed (bound given_tree (first_to w))) (honest given_tree).outcome
+      (small_honest e (setting_in (given_for e First w.wanted) Making w.sealed now) now small told w.place.index (first_machine w words) noted)
       (effect_undone e.taken (first_machine w words) (honest given_tree).machine
       (honest_effect (setting_in (given_for e First w.wanted) Making w.sealed now) w.place.index (first_machine w words)) u))
 
   misreads_honest : EndsAlways (first_setting e) (first_start e) → now < 2 ^ 64 → Follows e.clock now → w.sealed ≡ e.sealed → IsMisread e w words asked →
-      ActsWell e First (asked + questions (bound given_tree (first_to w))) (honest (bound given_tree (first_to w)))
+      ActsWell e First (asked + weighed (bound given_tree (first_to w))) (honest (bound given_tree (first_to w)))
   misreads_honest always small told sealed h =
       let step : Tree After = first_step e now w.place.index (first_machine w words) in
-      let all = questions_bound step (first_to w) in
+      let all = weighed_bound step (first_to w) in
       let behind = first_behind (with_first w (honest step).machine) (honest step).machine.words (honest step).outcome in
-      subst (λ (t : Tree After). ActsWell e First (asked + questions (bound t (first_to w))) (honest (bound t (first_to w))))
+      subst (λ (t : Tree After). ActsWell e First (asked + weighed (bound t (first_to w))) (honest (bound t (first_to w))))
       (sym (given_step e now w (first_machine w words) sealed h.aimed.wanted))
-      (subst (λ (y : Acted). ActsWell e First (asked + questions (bound step (first_to w))) y) (sym (honest_bound step (first_to w)))
-      (misread_acts e always now small told w words asked nothing gate space second h (asked + questions (bound step (first_to w))) (omega (arith, all, behind))))
+      (subst (λ (y : Acted). ActsWell e First (asked + weighed (bound step (first_to w))) y) (sym (honest_bound step (first_to w)))
+      (misread_acts e always now small told w words asked nothing gate space second h (asked + weighed (bound step (first_to w))) (omega (arith, all, behind))))
 
   honest_stands : IsTrusted e → now < 2 ^ 64 → Follows e.clock now → w.sealed ≡ e.sealed → FirstStruck e w words asked →
-      ActsWell e First (asked + questions (bound given_tree (first_to w))) (honest (bound given_tree (first_to w)))
-  honest_stands trusted small told sealed (Undoes noted u) = undoes_honest small noted u
+      ActsWell e First (asked + weighed (bound given_tree (first_to w))) (honest (bound given_tree (first_to w)))
+  honest_stands trusted small told sealed (Undoes noted u) = undoes_honest small told noted u
   honest_stands trusted small told sealed (Misreads h) = misreads_honest (trusted.ends h.aimed.fit) small told sealed h
 
 pub first_honest_on : (e : Errand) → IsTrusted e → (now : ℕ) → now < 2 ^ 64 → Follows e.clock now → (w : Walk) (words : List ℕ) (asked : ℕ) → w.want ≡ Nothing → w.gate.done ≡ phase_number First → w.sealed ≡ e.sealed →
     StruckInFirst e w (Some words) asked →
-    ActsWell e First (asked + questions (act_in (given_for e First w.wanted) now First w.place.index w words)) (honest (act_in (given_for e First w.wanted) now First w.place.index w words))
+    ActsWell e First (asked + weighed (act_in (given_for e First w.wanted) now First w.place.index w words)) (honest (act_in (given_for e First w.wanted) now First w.place.index w words))
 first_honest_on e trusted now small told w words asked nothing gate sealed h =
     honest_stands e now w words asked nothing gate h.space h.second trusted small told sealed h.stands
 

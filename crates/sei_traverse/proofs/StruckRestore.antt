@@ -6,7 +6,7 @@ use Rattle.std.proofs.lemmas.Option.{same_Some}
 use Rattle.sei_code.specs.Kept.{Kept}
 use Rattle.sei_log.specs.Changes.{undone, applied, Stands, IsDistinct}
 use Rattle.sei_log.specs.declared.log.Change.{Change}
-use Rattle.sei_log.proofs.ChangeLaws.{get_set_same, get_set_other, set_same, undone_push, take_stands, take_whole, same_within, equal_or, lt_or}
+use Rattle.sei_log.proofs.Public.{get_set_same, get_set_other, set_same, undone_push, take_stands, take_whole, same_within, equal_or, lt_or}
 use Rattle.sei_gate.specs.Closing.{risen}
 use Rattle.sei_fault.specs.declared.cause.AbortCause.{AbortCause}
 use Rattle.sei_fault.specs.declared.cause.AbortCause.TheVariants.{Gate}
@@ -14,13 +14,14 @@ use Rattle.sei_fault.specs.declared.place.Phase.{Phase}
 use Rattle.sei_fault.specs.declared.place.Phase.TheVariants.{Restore, Second}
 use Rattle.sei_fault.specs.declared.place.Place.{Place}
 use Rattle.sei_fault.specs.Phases.{phase_number}
-use Rattle.sei_fault.specs.Tree.{Always, honest, questions, bound}
-use Rattle.sei_fault.proofs.StruckRuns.{always_struck}
+use Rattle.sei_fault.specs.Tree.{Always, honest, bound}
+use Rattle.sei_fault.specs.Weights.{weighed}
+use Rattle.sei_fault.proofs.Public.{always_struck}
 use Rattle.sei_restore.specs.Undoing.{undo_word, undo_at, restored}
 use Rattle.sei_stmt.specs.Machine.{Machine, After, at_outcome}
 use Rattle.sei_stmt.specs.Machine.Outcome.{Next}
 use Rattle.sei_stmt.specs.Sound.{RisesFrom}
-use Rattle.sei_stmt.proofs.Invariant.{Keeps, keeps}
+use Rattle.sei_stmt.proofs.Public.{Keeps, keeps}
 use Rattle.sei_pass.specs.State.{PassState, new_pass}
 use Rattle.sei_pass.specs.Steps.{machine_of}
 use Rattle.sei_traverse.specs.declared.turned.Want.{Want}
@@ -34,7 +35,7 @@ use Rattle.sei_traverse.specs.Errand.{Errand, first_setting, first_start, Whole}
 use Rattle.sei_traverse.specs.Facts.{Wanted, closing_want}
 use Rattle.sei_traverse.proofs.ClosesNext.ClosesNext.{Stays, Closes}
 use Rattle.sei_traverse.specs.Phases.{undone_to, restore_tree}
-use Rattle.sei_traverse.specs.Struck.{NotesSmall, IsAimed, WasHonest, WasMisread, pending, On, RestoreStruck, SecondStruck, ComesOn}
+use Rattle.sei_traverse.specs.Struck.{IsNoted, IsAimed, WasHonest, WasMisread, pending, On, RestoreStruck, SecondStruck, ComesOn}
 use Rattle.sei_traverse.specs.Struck.RestoreStruck.{Restorable, Misread, Damaged}
 use Rattle.sei_traverse.specs.Struck.SecondStruck.{Good, Misread as MisreadOn, Damaged as DamagedOn}
 use Rattle.sei_traverse.specs.Trusted.{IsTrusted}
@@ -259,7 +260,7 @@ not_back : (word : Option ℕ) (c : Change) → c.was ≢ c.becomes → word ≡
 not_back word c real is back = real (same_Some c.was c.becomes (sym back ∙ is))
 
 -- what an honest first pass noted is small
-small_was : (e : Errand) (w : Walk) (end : Machine) (asked : ℕ) → WasHonest e w end asked → NotesSmall w.notes.now
+small_was : (e : Errand) (w : Walk) (end : Machine) (asked : ℕ) → WasHonest e w end asked → IsNoted e w.notes.now
 small_was e w end asked was = small_whole e was.time was.made end w.notes was.whole was.first.notes
 
 -- A move to another place of the restoration.
@@ -438,6 +439,6 @@ restore_laws e trusted = record {
       (struck_act e w words asked (asked + n) (omega arith) nothing clean.is.gate clean.second (restore_facts e w words steps asked knows clean)
       (nat_lt w.place.index (length w.first_log.items)) refl) run;
   honest_on = λ now small told w words asked nothing gate sealed stands.
-      honest_act e w words asked (asked + questions (restore_tree w.place.index w words)) (omega arith) nothing gate stands.0 stands.1
+      honest_act e w words asked (asked + weighed (restore_tree w.place.index w words)) (omega arith) nothing gate stands.0 stands.1
       (nat_lt w.place.index (length w.first_log.items)) refl;
 }

@@ -8,7 +8,7 @@ use Rattle.sei_code.specs.declared.coded.Coded.{Coded}
 use Rattle.sei_log.specs.Changes.{change_of, SameOff}
 use Rattle.sei_log.specs.declared.log.Change.{Change}
 use Rattle.sei_log.specs.declared.notes.Notes.{Notes}
-use Rattle.sei_log.proofs.ChangeLaws.{same_push}
+use Rattle.sei_log.proofs.Public.{same_push}
 use Rattle.sei_fault.specs.declared.cause.AbortCause.{AbortCause}
 use Rattle.sei_fault.specs.declared.cause.AbortCause.TheVariants.{Gate}
 use Rattle.sei_fault.specs.declared.place.Phase.{Phase}
@@ -16,26 +16,22 @@ use Rattle.sei_fault.specs.declared.place.Phase.TheVariants.{Second, Compare}
 use Rattle.sei_fault.specs.declared.place.Place.{Place}
 use Rattle.sei_fault.specs.Phases.{phase_number}
 use Rattle.sei_fault.specs.StruckRuns.{StruckRun}
-use Rattle.sei_fault.specs.Tree.{Tree, honest, questions, bound, Always}
-use Rattle.sei_fault.proofs.Bound.{honest_bound, questions_bound}
-use Rattle.sei_fault.proofs.Runs.{always_honest}
-use Rattle.sei_fault.proofs.StruckRuns.{StruckBound, struck_bound, always_struck}
-use Rattle.sei_fault.proofs.StruckRuns.StruckBound.{Before, Behind}
+use Rattle.sei_fault.specs.Tree.{Tree, honest, bound, Always}
+use Rattle.sei_fault.specs.Weights.{weighed}
+use Rattle.sei_fault.proofs.Public.{honest_bound, weighed_bound, always_honest, StruckBound, struck_bound, always_struck}
+use Rattle.sei_fault.proofs.PublicStruckRuns.StruckBound.{Before, Behind}
 use Rattle.sei_gate.specs.Closing.{risen}
 use Rattle.sei_stmt.specs.declared.stmt.Stmt.{Stmt}
 use Rattle.sei_stmt.specs.declared.stmt.Stmt.TheVariants.{Store}
-use Rattle.sei_stmt.specs.Asked.{making, first_asked}
-use Rattle.sei_stmt.specs.Honest.{after, onward_from, asked_in, asked_after}
+use Rattle.sei_stmt.specs.Weights.{making, first_weighed, weighed_in, weighed_after}
+use Rattle.sei_stmt.specs.Honest.{after, onward_from}
 use Rattle.sei_stmt.specs.Machine.{Machine, Setting, Outcome, After, register, one_made}
 use Rattle.sei_stmt.specs.Machine.Outcome.{Next, Halted, Bad}
 use Rattle.sei_stmt.specs.Slots.{is_admissible}
 use Rattle.sei_stmt.specs.Statements.{noted_value, noted_now, now_by, fit_if, noted_slot_value, noted_slot, alloc_by, statement_tree, step_tree}
-use Rattle.sei_stmt.proofs.HonestLaws.{after_one}
-use Rattle.sei_stmt.proofs.Effects.{Effect, StruckEffect, honest_effect, struck_effect}
-use Rattle.sei_stmt.proofs.Effects.Effect.{Untouched, Wrote}
-use Rattle.sei_stmt.proofs.Effects.StruckEffect.{Plain, Wrong}
-use Rattle.sei_stmt.proofs.Invariant.{keeps}
-use Rattle.sei_stmt.proofs.Relog.{IsGoing}
+use Rattle.sei_stmt.proofs.Public.{after_one, Effect, StruckEffect, honest_effect, struck_effect, keeps, IsGoing}
+use Rattle.sei_stmt.proofs.PublicEffects.Effect.{Untouched, Wrote}
+use Rattle.sei_stmt.proofs.PublicEffects.StruckEffect.{Plain, Wrong}
 use Rattle.sei_stmt.proofs.PublicStatementEnds.{step_keeps}
 use Rattle.sei_stmt.proofs.PublicStatementRuns.{looks, plain_repeats, by_statements}
 use Rattle.sei_stmt.proofs.PublicStatementRuns.Looks.{Stores, Times, Slots, Neither}
@@ -52,8 +48,8 @@ use Rattle.sei_traverse.specs.Errand.{Errand, first_start}
 use Rattle.sei_traverse.specs.Facts.{Wanted}
 use Rattle.sei_traverse.proofs.ClosesNext.ClosesNext.{Stays, Closes}
 use Rattle.sei_traverse.specs.PassActs.{asked_behind, second_machine, with_second, second_from, second_to}
-use Rattle.sei_traverse.specs.Service.{setting_in}
-use Rattle.sei_traverse.specs.Struck.{NotesSmall, IsAimed, WasHonest, WasMisread, start_on, setting_on, ComesOn, SecondStruck, CompareStruck, On}
+use Rattle.sei_traverse.specs.Given.{setting_in}
+use Rattle.sei_traverse.specs.Struck.{IsNoted, IsAimed, WasHonest, WasMisread, start_on, setting_on, ComesOn, SecondStruck, CompareStruck, On}
 use Rattle.sei_traverse.specs.Struck.SecondStruck.{Good, Misread, Damaged, Struck}
 use Rattle.sei_traverse.specs.Struck.CompareStruck.{Fine, Doubt}
 use Rattle.sei_traverse.specs.Trusted.{IsTrusted, second_setting}
@@ -90,45 +86,45 @@ at_most : (n : ℕ) → n ≤ n
 at_most n = omega arith
 
 -- to read a note takes two questions, as making it does
-value_asks : (i : ℕ) (m : Machine) (to : ℕ) (n : Option ℕ) → IsGoing (honest (noted_value i m to n)).outcome → 2 ≤ questions (noted_value i m to n)
+value_asks : (i : ℕ) (m : Machine) (to : ℕ) (n : Option ℕ) → IsGoing (honest (noted_value i m to n)).outcome → 2 ≤ weighed (noted_value i m to n)
 value_asks i m to None going = absurd going
 value_asks i m to (Some n) going = omega arith
 
-noted_asks : (i : ℕ) (m : Machine) (to : ℕ) (note : Option Coded) → IsGoing (honest (noted_now i m to note)).outcome → 2 ≤ questions (noted_now i m to note)
+noted_asks : (i : ℕ) (m : Machine) (to : ℕ) (note : Option Coded) → IsGoing (honest (noted_now i m to note)).outcome → 2 ≤ weighed (noted_now i m to note)
 noted_asks i m to None going = absurd going
 noted_asks i m to (Some note) going = value_asks i m to (read_of note) going
 
-now_asks : (g : Setting) (i : ℕ) (m : Machine) (to : ℕ) (reading : Bool) → reading ≡ true → IsGoing (honest (now_by reading g i m to)).outcome → 2 ≤ questions (now_by reading g i m to)
+now_asks : (g : Setting) (i : ℕ) (m : Machine) (to : ℕ) (reading : Bool) → reading ≡ true → IsGoing (honest (now_by reading g i m to)).outcome → 2 ≤ weighed (now_by reading g i m to)
 now_asks g i m to true e going = noted_asks i m to m.notes.now going
 now_asks g i m to false e going = absurd cc
 
-fit_asks : (i : ℕ) (m : Machine) (to slot : ℕ) (fit : Bool) → IsGoing (honest (fit_if fit i m to slot)).outcome → 2 ≤ questions (fit_if fit i m to slot)
+fit_asks : (i : ℕ) (m : Machine) (to slot : ℕ) (fit : Bool) → IsGoing (honest (fit_if fit i m to slot)).outcome → 2 ≤ weighed (fit_if fit i m to slot)
 fit_asks i m to slot true going = omega arith
 fit_asks i m to slot false going = absurd going
 
 slot_value_asks : (g : Setting) (i : ℕ) (m : Machine) (to moment : ℕ) (slot : Option ℕ) → IsGoing (honest (noted_slot_value g i m to moment slot)).outcome →
-    2 ≤ questions (noted_slot_value g i m to moment slot)
+    2 ≤ weighed (noted_slot_value g i m to moment slot)
 slot_value_asks g i m to moment None going = absurd going
 slot_value_asks g i m to moment (Some slot) going =
     let two = fit_asks i m to slot (is_admissible g m.words moment slot) going in
     omega (arith, two)
 
 slot_asks : (g : Setting) (i : ℕ) (m : Machine) (to moment : ℕ) (note : Option Coded) → IsGoing (honest (noted_slot g i m to moment note)).outcome →
-    2 ≤ questions (noted_slot g i m to moment note)
+    2 ≤ weighed (noted_slot g i m to moment note)
 slot_asks g i m to moment None going = absurd going
 slot_asks g i m to moment (Some note) going = slot_value_asks g i m to moment (read_of note) going
 
-alloc_asks : (g : Setting) (i : ℕ) (m : Machine) (to t : ℕ) (reading : Bool) → reading ≡ true → IsGoing (honest (alloc_by reading g i m to t)).outcome → 2 ≤ questions (alloc_by reading g i m to t)
+alloc_asks : (g : Setting) (i : ℕ) (m : Machine) (to t : ℕ) (reading : Bool) → reading ≡ true → IsGoing (honest (alloc_by reading g i m to t)).outcome → 2 ≤ weighed (alloc_by reading g i m to t)
 alloc_asks g i m to t true e going = slot_asks g i m to t m.notes.slot going
 alloc_asks g i m to t false e going = absurd cc
 
 -- the statement asks no more where it is made
 abbrev AsksMore : Setting → ℕ → Machine → Stmt → Type 0
-AsksMore g i m s = IsGoing (honest (statement_tree g i m s)).outcome → questions (statement_tree (making g) i m s) ≤ questions (statement_tree g i m s)
+AsksMore g i m s = IsGoing (honest (statement_tree g i m s)).outcome → weighed (statement_tree (making g) i m s) ≤ weighed (statement_tree g i m s)
 
 statement_asks : (g : Setting) (i : ℕ) (m : Machine) (s : Stmt) → g.reading ≡ true → AsksMore g i m s
 statement_asks g i m s e = elim (looks s) [
-  | Stores address from is ↦ subst (AsksMore g i m) (sym is) (λ going. at_most (questions (statement_tree g i m (Store address from))))
+  | Stores address from is ↦ subst (AsksMore g i m) (sym is) (λ going. at_most (weighed (statement_tree g i m (Store address from))))
   | Times to is ↦ subst (AsksMore g i m) (sym is) (λ going. now_asks g i m to g.reading e going)
   | Slots to moment is ↦ subst (AsksMore g i m) (sym is) (λ going. let two = alloc_asks g i m to (register m moment) g.reading e going in omega (arith, two))
   | Neither plain ↦ λ going. omega (arith, (plain_repeats false g.now (λ log. log) (λ notes. notes) g i m s plain).asked)
@@ -136,9 +132,9 @@ statement_asks g i m s e = elim (looks s) [
 
 -- a step that is read and goes on asks at least as much as one that is made
 pub making_asks : (g : Setting) (i : ℕ) (m : Machine) → g.reading ≡ true → IsGoing (honest (step_tree g i m)).outcome →
-    questions (step_tree (making g) i m) ≤ questions (step_tree g i m)
+    weighed (step_tree (making g) i m) ≤ weighed (step_tree g i m)
 making_asks g i m e =
-    by_statements false g.now (λ log. log) (λ notes. notes) g i m (λ a b. IsGoing (honest a).outcome → questions b ≤ questions a) (λ cause going. absurd going)
+    by_statements false g.now (λ log. log) (λ notes. notes) g i m (λ a b. IsGoing (honest a).outcome → weighed b ≤ weighed a) (λ cause going. absurd going)
     (λ s is. statement_asks g i (one_made m) s e)
 
 -- a run that did not abort had not aborted before
@@ -147,13 +143,13 @@ going_before g m (Next i) going = tt
 going_before g m Halted going = tt
 going_before g m (Bad cause) going = absurd going
 
-fewer_in : (g : Setting) (m : Machine) (o : Outcome) → g.reading ≡ true → IsGoing (onward_from g m o).outcome → asked_in (making g) m o ≤ asked_in g m o
+fewer_in : (g : Setting) (m : Machine) (o : Outcome) → g.reading ≡ true → IsGoing (onward_from g m o).outcome → weighed_in (making g) m o ≤ weighed_in g m o
 fewer_in g m (Next i) e going = making_asks g i m e going
 fewer_in g m Halted e going = omega arith
 fewer_in g m (Bad cause) e going = omega arith
 
 -- so do making steps at all machines of a reading run that did not abort
-pub first_fewer : (g : Setting) (start : Machine) (n : ℕ) → g.reading ≡ true → IsGoing (after g start n).outcome → first_asked g start n ≤ asked_after g start n
+pub first_fewer : (g : Setting) (start : Machine) (n : ℕ) → g.reading ≡ true → IsGoing (after g start n).outcome → first_weighed g start n ≤ weighed_after g start n
 first_fewer g start zero e going = omega arith
 first_fewer g start (suc n) e going =
     let x : After = after g start n in
@@ -226,7 +222,7 @@ module _ (e : Errand) (w : Walk) (words : List ℕ) where
   notes_here : on_end.machine.notes ≡ w.notes
   notes_here = always_honest (λ (y : After). y.machine.notes ≡ w.notes) (on_step e w words) (notes_kept (setting_on e w.wanted) w.place.index (second_machine w words) refl)
 
-  module _ (done : ℕ) (want : Want) (to : Place) (asked later : ℕ) (le : asked + (questions (on_step e w words) + asked_behind on_end.outcome) ≤ later) (going : IsGoing on_end.outcome) where
+  module _ (done : ℕ) (want : Want) (to : Place) (asked later : ℕ) (le : asked + (weighed (on_step e w words) + asked_behind on_end.outcome) ≤ later) (going : IsGoing on_end.outcome) where
     abbrev there : Walk
     there = behind w on_end.machine done want to
 
@@ -237,22 +233,22 @@ module _ (e : Errand) (w : Walk) (words : List ℕ) where
         (after_one (setting_on e w.wanted) (start_on e found w.notes) (second_machine w words) w.place.index n on_end c refl)
 
     -- and asked no less than a first pass would, with the closing test where it halted
-    asked_one : (n : ℕ) → ComesOn e w e.taken words (Next w.place.index) n → first_asked (setting_on e w.wanted) (start_on e e.taken w.notes) n + 0 ≤ asked →
-        first_asked (setting_on e w.wanted) (start_on e e.taken on_end.machine.notes) (suc n) + asked_behind on_end.outcome ≤ later
+    asked_one : (n : ℕ) → ComesOn e w e.taken words (Next w.place.index) n → first_weighed (setting_on e w.wanted) (start_on e e.taken w.notes) n + 0 ≤ asked →
+        first_weighed (setting_on e w.wanted) (start_on e e.taken on_end.machine.notes) (suc n) + asked_behind on_end.outcome ≤ later
     asked_one n c before =
         let g : Setting = setting_on e w.wanted in
         let x : After = after g (start_on e e.taken w.notes) n in
-        let here : asked_in (making g) x.machine x.outcome ≡ questions (step_tree (making g) w.place.index (second_machine w words)) = ap (λ (x : After). asked_in (making g) x.machine x.outcome) c in
-        let fewer : questions (step_tree (making g) w.place.index (second_machine w words)) ≤ questions (on_step e w words) = making_asks g w.place.index (second_machine w words) refl going in
-        let all : first_asked g (start_on e e.taken w.notes) n + asked_in (making g) x.machine x.outcome + asked_behind on_end.outcome ≤ later = omega (arith, before, here, fewer, le) in
-        subst (λ (k : Notes). first_asked (setting_on e w.wanted) (start_on e e.taken k) (suc n) + asked_behind on_end.outcome ≤ later) (sym notes_here) all
+        let here : weighed_in (making g) x.machine x.outcome ≡ weighed (step_tree (making g) w.place.index (second_machine w words)) = ap (λ (x : After). weighed_in (making g) x.machine x.outcome) c in
+        let fewer : weighed (step_tree (making g) w.place.index (second_machine w words)) ≤ weighed (on_step e w words) = making_asks g w.place.index (second_machine w words) refl going in
+        let all : first_weighed g (start_on e e.taken w.notes) n + weighed_in (making g) x.machine x.outcome + asked_behind on_end.outcome ≤ later = omega (arith, before, here, fewer, le) in
+        subst (λ (k : Notes). first_weighed (setting_on e w.wanted) (start_on e e.taken k) (suc n) + asked_behind on_end.outcome ≤ later) (sym notes_here) all
 
     least : asked ≤ later
     least = omega (arith, le)
 
     -- the case stays as it is
     goes_honestly : SecondStruck e w words (Next w.place.index) asked → SecondStruck e there on_end.machine.words on_end.outcome later
-    goes_honestly (Good small n c before) = Good (subst (λ (k : Notes). NotesSmall k.now) (sym notes_here) small) (suc n) (comes_one e.taken n c) (asked_one n c before)
+    goes_honestly (Good small n c before) = Good (subst (λ (k : Notes). IsNoted e k.now) (sym notes_here) small) (suc n) (comes_one e.taken n c) (asked_one n c before)
     goes_honestly (Misread end was found off n c) =
         Misread end (was_misread e w on_end.machine done want to asked later least notes_here end was) found off (suc n) (comes_one found n c)
     goes_honestly (Damaged end was p c stands found not n comes) =
@@ -364,13 +360,13 @@ module _ (e : Errand) (w : Walk) (lent : Option (List ℕ)) (steps asked : ℕ) 
       ∙ ap (λ (ws : List ℕ). let x : After = record { machine = second_machine w ws; outcome = Next w.place.index } in x) (same_Some h.words words (sym h.lent_are ∙ are))
 
   -- and has asked no less than a first pass would there
-  clean_asked : (words : List ℕ) → lent ≡ Some words → first_asked (setting_on e w.wanted) (start_on e e.taken w.notes) h.n ≤ asked
+  clean_asked : (words : List ℕ) → lent ≡ Some words → first_weighed (setting_on e w.wanted) (start_on e e.taken w.notes) h.n ≤ asked
   clean_asked words are =
       let going : IsGoing (after (second_setting e) (renoted h.end.notes (first_start e)) h.n).outcome = subst (λ (x : After). IsGoing x.outcome) (sym h.comes) tt in
       let fewer = first_fewer (second_setting e) (renoted h.end.notes (first_start e)) h.n refl going in
-      let all : first_asked (second_setting e) (renoted h.end.notes (first_start e)) h.n ≤ asked = omega (arith, fewer, h.questions) in
-      let noted : first_asked (second_setting e) (renoted w.notes (first_start e)) h.n ≤ asked = subst (λ (k : Notes). first_asked (second_setting e) (renoted k (first_start e)) h.n ≤ asked) (sym h.first.notes) all in
-      subst (λ (b : ℕ). first_asked (setting_on e b) (start_on e e.taken w.notes) h.n ≤ asked) (sym aimed.wanted) noted
+      let all : first_weighed (second_setting e) (renoted h.end.notes (first_start e)) h.n ≤ asked = omega (arith, fewer, h.questions) in
+      let noted : first_weighed (second_setting e) (renoted w.notes (first_start e)) h.n ≤ asked = subst (λ (k : Notes). first_weighed (second_setting e) (renoted k (first_start e)) h.n ≤ asked) (sym h.first.notes) all in
+      subst (λ (b : ℕ). first_weighed (setting_on e b) (start_on e e.taken w.notes) h.n ≤ asked) (sym aimed.wanted) noted
 
   clean_good : (words : List ℕ) → lent ≡ Some words → SecondStruck e w words (Next w.place.index) asked
   clean_good words are = Good (small_whole e h.time h.made h.end w.notes h.whole h.first.notes) h.n (clean_comes words are) (omega (arith, clean_asked words are))
@@ -386,15 +382,15 @@ module _ (e : Errand) (w : Walk) (lent : Option (List ℕ)) (steps asked : ℕ) 
 module _ (e : Errand) (trusted : IsTrusted e) (now : ℕ) (w : Walk) (words : List ℕ) (asked : ℕ) (nothing : w.want ≡ Nothing) (right : w.gate.done ≡ phase_number Second)
     (s : SecondStruck e w words (Next w.place.index) asked) where
   abbrev WellBy : Tree After → Type 0
-  WellBy t = ActsWell e Second (asked + questions (bound t (second_to w))) (honest (bound t (second_to w)))
+  WellBy t = ActsWell e Second (asked + weighed (bound t (second_to w))) (honest (bound t (second_to w)))
 
   honest_ends : WellBy (on_step e w words)
   honest_ends =
       let x : After = on_end e w words in
-      let all = questions_bound (on_step e w words) (second_to w) in
-      let later : ℕ = asked + questions (bound (on_step e w words) (second_to w)) in
+      let all = weighed_bound (on_step e w words) (second_to w) in
+      let later : ℕ = asked + weighed (bound (on_step e w words) (second_to w)) in
       let closing = second_behind (with_second w x.machine) x.machine.words x.outcome in
-      let le : asked + (questions (on_step e w words) + asked_behind x.outcome) ≤ later = omega (arith, all, closing) in
+      let le : asked + (weighed (on_step e w words) + asked_behind x.outcome) ≤ later = omega (arith, all, closing) in
       subst (ActsWell e Second later) (sym (honest_bound (on_step e w words) (second_to w)))
       (ends_well e trusted w x.machine later nothing right x.outcome (λ done want to going. goes_honestly e w words done want to asked later le going s))
 
@@ -423,13 +419,13 @@ module _ (e : Errand) (trusted : IsTrusted e) (now : ℕ) (w : Walk) (words : Li
       (λ done want to going. Struck h.end (was_honest e w x.machine done want to asked (asked + n) (omega arith) kept h.end was) off))
 
   -- in the closing behind Halt
-  in_closing : (m : ℕ) (o : Outcome) → (on_end e w words).outcome ≡ o → questions (on_step e w words) + m ≤ n →
+  in_closing : (m : ℕ) (o : Outcome) → (on_end e w words).outcome ≡ o → weighed (on_step e w words) + m ≤ n →
       StruckRun (second_from (with_second w (on_end e w words).machine) (on_end e w words).machine.words o) y m → ActsWell e Second (asked + n) y
   in_closing m (Next i) is le s = absurd s
   in_closing m (Bad cause) is le s = absurd s
   in_closing m Halted is le s = by_case (closing_struck Second (with_second w (on_end e w words).machine) (on_end e w words).machine.words (at Compare 0) y m s)
     where
-      asks : asked + (questions (on_step e w words) + asked_behind (on_end e w words).outcome) ≤ asked + n
+      asks : asked + (weighed (on_step e w words) + asked_behind (on_end e w words).outcome) ≤ asked + n
       asks =
           let one : asked_behind (on_end e w words).outcome ≡ 1 = ap asked_behind is in
           let test : 1 ≤ m = closing_counts Second (with_second w (on_end e w words).machine) (on_end e w words).machine.words (at Compare 0) y m s in

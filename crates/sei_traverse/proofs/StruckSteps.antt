@@ -11,11 +11,10 @@ use Rattle.sei_fault.specs.declared.place.Times.{Times}
 use Rattle.sei_fault.specs.declared.place.Times.TheVariants.{Once, Skip, Twice}
 use Rattle.sei_fault.specs.Phases.{phase_number}
 use Rattle.sei_fault.specs.StruckRuns.{StruckRun}
-use Rattle.sei_fault.specs.Tree.{Tree, bound, honest, questions}
-use Rattle.sei_fault.proofs.Bound.{honest_bound, questions_bound}
-use Rattle.sei_fault.proofs.Runs.{always_honest}
-use Rattle.sei_fault.proofs.StruckRuns.{StruckBound, struck_bound}
-use Rattle.sei_fault.proofs.StruckRuns.StruckBound.{Before, Behind}
+use Rattle.sei_fault.specs.Tree.{Tree, bound, honest}
+use Rattle.sei_fault.specs.Weights.{weighed}
+use Rattle.sei_fault.proofs.Public.{honest_bound, weighed_bound, always_honest, StruckBound, struck_bound}
+use Rattle.sei_fault.proofs.PublicStruckRuns.StruckBound.{Before, Behind}
 use Rattle.sei_pass.specs.declared.given.Sealed.{Sealed}
 use Rattle.sei_pass.specs.Setting.{is_intact}
 use Rattle.sei_words.specs.Loan.{words_of}
@@ -32,7 +31,7 @@ use Rattle.sei_traverse.proofs.ClosesNext.{ClosesNext}
 use Rattle.sei_traverse.specs.Facts.StruckCase.{Right, Lost}
 use Rattle.sei_traverse.proofs.ClosesNext.ClosesNext.{Closes}
 use Rattle.sei_traverse.specs.OnWay.{lent_words, LendsIn}
-use Rattle.sei_traverse.specs.Service.{Given, has_sealed_call}
+use Rattle.sei_traverse.specs.Given.{Given, has_sealed_call}
 use Rattle.sei_traverse.specs.Step.{Turn, turn, aborted, arrival, act_in, act_tree, is_last, next_phase, site_of, skipped, goes, goes_on, once, twice, turn_as, turn_at}
 use Rattle.sei_traverse.specs.Struck.{HasCopyOfSome, StruckIn}
 use Rattle.sei_traverse.specs.Trusted.{PassesGuard, IsTrusted}
@@ -65,19 +64,19 @@ module _ (e : Errand) (laws : (phase : Phase) → (phase ≡ Guard → ⊥) → 
     once_is : honest (goes_on (honest its_act)) ≡ honest (once (given_with e loan) clock u words)
     once_is = sym (honest_bound its_act goes_on)
 
-    once_asks : questions its_act ≤ questions (once (given_with e loan) clock u words)
-    once_asks = let sum = questions_bound its_act goes_on in omega (arith, sum)
+    once_asks : weighed its_act ≤ weighed (once (given_with e loan) clock u words)
+    once_asks = let sum = weighed_bound its_act goes_on in omega (arith, sum)
 
     -- where the gate is right
     pub right_once : clock < 2 ^ 64 → Follows e.clock clock → (asked : ℕ) → u.want ≡ Nothing → u.gate.done ≡ phase_number u.place.phase → u.sealed ≡ e.sealed → LendsIn u.wanted u.place.phase loan → StruckIn e u (left_of loan words) asked u.place.phase →
-        EndsWell e (StruckStands e) (left_of loan) (phase_number u.place.phase) (asked + questions (once (given_with e loan) clock u words)) (honest (once (given_with e loan) clock u words))
+        EndsWell e (StruckStands e) (left_of loan) (phase_number u.place.phase) (asked + weighed (once (given_with e loan) clock u words)) (honest (once (given_with e loan) clock u words))
     right_once small told asked nothing gate sealed lends stands =
         let right = lends_right e u.place.phase u.wanted loan lends in
         let well = honest_law u.place.phase clock small told u words asked nothing gate sealed (subst (λ (lent : Option (List ℕ)). StruckIn e u lent asked u.place.phase) (right.left words) stands) in
-        let given = subst (λ (g : Given). ActsWell e u.place.phase (asked + questions (act_tree g clock u words)) (honest (act_tree g clock u words))) right.given well in
-        let ends = act_well e (left_of loan) u.place.phase right.left (asked + questions its_act) (honest its_act) given in
-        raised e (StruckStands e) (left_of loan) (phase_number u.place.phase) (asked + questions its_act) (asked + questions (once (given_with e loan) clock u words)) (honest (once (given_with e loan) clock u words)) (omega (arith, once_asks))
-        (subst (λ (x : Turn). EndsWell e (StruckStands e) (left_of loan) (phase_number u.place.phase) (asked + questions its_act) x) once_is ends)
+        let given = subst (λ (g : Given). ActsWell e u.place.phase (asked + weighed (act_tree g clock u words)) (honest (act_tree g clock u words))) right.given well in
+        let ends = act_well e (left_of loan) u.place.phase right.left (asked + weighed its_act) (honest its_act) given in
+        raised e (StruckStands e) (left_of loan) (phase_number u.place.phase) (asked + weighed its_act) (asked + weighed (once (given_with e loan) clock u words)) (honest (once (given_with e loan) clock u words)) (omega (arith, once_asks))
+        (subst (λ (x : Turn). EndsWell e (StruckStands e) (left_of loan) (phase_number u.place.phase) (asked + weighed its_act) x) once_is ends)
 
     module _ (lost : LostLaw) (gate : u.gate.done ≢ phase_number u.place.phase) (fit : u.place.phase ≡ Guard → PassesGuard e) (sealed : u.sealed ≡ e.sealed) where
       guards : u.place.phase ≡ Guard → (is_intact u.sealed e.input ≡ true) × (has_sealed_call (given_with e loan) u.sealed ≡ true)
@@ -161,7 +160,7 @@ module _ (e : Errand) (trusted : IsTrusted e) (laws : (phase : Phase) → (phase
     gate_there = next_gate e trusted both answered now loan w steps asked w.place.phase a
 
     -- the act once more, in the same phase
-    same_again : a.to.phase ≡ w.place.phase → EndsAs (a.more + questions (once g later a.walk a.left)) (honest (once g later a.walk a.left))
+    same_again : a.to.phase ≡ w.place.phase → EndsAs (a.more + weighed (once g later a.walk a.left)) (honest (once g later a.walk a.left))
     same_again same =
         let u : Walk = a.walk in
         let quiet : u.want ≡ Nothing = a.want ∙ quiet_again e trusted both answered now loan w steps asked w.place.phase a gate same in
@@ -174,9 +173,9 @@ module _ (e : Errand) (trusted : IsTrusted e) (laws : (phase : Phase) → (phase
         let lent = lends_again w.place.phase w.place.index w.wanted u.wanted loan (wanted_kept e trusted both answered now loan w steps asked w.place.phase a) lends in
         let lent_on : LendsIn u.wanted u.place.phase loan = subst (λ (r : Place). LendsIn u.wanted r.phase loan) (sym place) lent in
         let ends = right_once e laws loan later u a.left small_later told_later (asked + a.more) quiet gate_is (kept.sealed ∙ clean_sealed e w (lent_words loan) steps asked w.place.phase clean) lent_on stands in
-        let n : ℕ = a.more + questions (once g later u a.left) in
+        let n : ℕ = a.more + weighed (once g later u a.left) in
         let all : EndsWell e (StruckStands e) (left_of loan) (phase_number u.place.phase) (asked + n) (honest (once g later u a.left)) =
-        raised e (StruckStands e) (left_of loan) (phase_number u.place.phase) (asked + a.more + questions (once g later u a.left)) (asked + n) (honest (once g later u a.left)) (omega arith) ends in
+        raised e (StruckStands e) (left_of loan) (phase_number u.place.phase) (asked + a.more + weighed (once g later u a.left)) (asked + n) (honest (once g later u a.left)) (omega arith) ends in
         subst (λ (r : Place). EndsWell e (StruckStands e) (left_of loan) (phase_number r.phase) (asked + n) (honest (once g later u a.left))) place all
 
     -- what the first act wants is so behind the second one, which closes nothing
@@ -217,11 +216,11 @@ module _ (e : Errand) (trusted : IsTrusted e) (laws : (phase : Phase) → (phase
         raised e (StruckStands e) (left_of loan) (phase_number w.place.phase) asked (asked + 0) (honest (once g later u a.left)) (omega arith)
         (lost_once e laws loan later u a.left lost wrong (λ h. fit) sealed (phase_number w.place.phase) asked (wants_again apart still (wants_kind e w w.place.phase)))
 
-    goes_again : (n : ℕ) → a.more + questions (once g later a.walk a.left) ≤ n → EndsAs n (honest (once g later a.walk a.left))
+    goes_again : (n : ℕ) → a.more + weighed (once g later a.walk a.left) ≤ n → EndsAs n (honest (once g later a.walk a.left))
     goes_again n le = by_phase (same_or a.to.phase w.place.phase)
       where
         by_phase : (a.to.phase ≡ w.place.phase) ⊎ (phase_number a.to.phase ≢ phase_number w.place.phase) → EndsAs n (honest (once g later a.walk a.left))
-        by_phase (inl same) = raised e (StruckStands e) (left_of loan) (phase_number w.place.phase) (asked + (a.more + questions (once g later a.walk a.left))) (asked + n) (honest (once g later a.walk a.left)) (omega (arith, le)) (same_again same)
+        by_phase (inl same) = raised e (StruckStands e) (left_of loan) (phase_number w.place.phase) (asked + (a.more + weighed (once g later a.walk a.left))) (asked + n) (honest (once g later a.walk a.left)) (omega (arith, le)) (same_again same)
         by_phase (inr apart) = raised e (StruckStands e) (left_of loan) (phase_number w.place.phase) (asked + 0) (asked + n) (honest (once g later a.walk a.left)) (omega arith) (lost_again apart)
 
   module _ (fit : PassesGuard e) (last : w.place.phase ≡ Done) (f : Finishes e (given_with e loan) now w.place.phase w (words_of loan) steps asked) where
@@ -305,48 +304,48 @@ module _ (e : Errand) (trusted : IsTrusted e) (laws : (phase : Phase) → (phase
   anywhere u left to x n (inl h) P all = subst P (sym h.end) (all h.answer)
   anywhere u left to x n (inr (m, is, s)) P all = absurd s
 
-  goes_struck : (x : Turn) (n : ℕ) → StruckRun (goes_on (honest (act_tree g now w words))) x n → CleanAct e now w loan steps asked w.place.phase → EndsAs (questions (act_tree g now w words) + n) x
+  goes_struck : (x : Turn) (n : ℕ) → StruckRun (goes_on (honest (act_tree g now w words))) x n → CleanAct e now w loan steps asked w.place.phase → EndsAs (weighed (act_tree g now w words) + n) x
   goes_struck x n run (Goes fit a) =
-      anywhere a.walk a.left a.to x n (in_going (acted a.walk a.left (Leads a.to)) a.acts x n run) (λ (y : Turn). EndsAs (questions (act_tree g now w words) + n) y)
-      (λ r. goes_anywhere fit a (questions (act_tree g now w words) + n) r (omega (arith, a.asks)))
+      anywhere a.walk a.left a.to x n (in_going (acted a.walk a.left (Leads a.to)) a.acts x n run) (λ (y : Turn). EndsAs (weighed (act_tree g now w words) + n) y)
+      (λ r. goes_anywhere fit a (weighed (act_tree g now w words) + n) r (omega (arith, a.asks)))
   goes_struck x n run (Ends fit last f) =
-      anywhere f.walk f.left (at Done 1) x n (in_going (acted f.walk f.left (Leads (at Done 1))) f.acts x n run) (λ (y : Turn). EndsAs (questions (act_tree g now w words) + n) y)
-      (λ r. ends_anywhere fit last f (questions (act_tree g now w words) + n) r)
+      anywhere f.walk f.left (at Done 1) x n (in_going (acted f.walk f.left (Leads (at Done 1))) f.acts x n run) (λ (y : Turn). EndsAs (weighed (act_tree g now w words) + n) y)
+      (λ r. ends_anywhere fit last f (weighed (act_tree g now w words) + n) r)
   goes_struck x n run (Unfit guard unfit site acts) = absurd (in_going (acted w words Refuses) acts x n run)
 
   -- the act is made once
-  made_once : CleanAct e now w loan steps asked w.place.phase → EndsAs (questions (once g now w words)) (honest (once g now w words))
-  made_once act = subst (λ (x : Turn). EndsAs (questions (once g now w words)) x) (sym (honest_bound (act_tree g now w words) goes_on)) (by_act act)
+  made_once : CleanAct e now w loan steps asked w.place.phase → EndsAs (weighed (once g now w words)) (honest (once g now w words))
+  made_once act = subst (λ (x : Turn). EndsAs (weighed (once g now w words)) x) (sym (honest_bound (act_tree g now w words) goes_on)) (by_act act)
     where
-      enough : (n : ℕ) → n ≤ questions (act_tree g now w words) → n ≤ questions (once g now w words)
-      enough n le = let sum = questions_bound (act_tree g now w words) goes_on in omega (arith, le, sum)
+      enough : (n : ℕ) → n ≤ weighed (act_tree g now w words) → n ≤ weighed (once g now w words)
+      enough n le = let sum = weighed_bound (act_tree g now w words) goes_on in omega (arith, le, sum)
 
-      by_act : CleanAct e now w loan steps asked w.place.phase → EndsAs (questions (once g now w words)) (honest (goes_on (honest (act_tree g now w words))))
-      by_act (Goes fit a) = subst (λ (y : Acted). EndsAs (questions (once g now w words)) (honest (goes_on y))) (sym a.acts) (goes_anywhere fit a (questions (once g now w words)) a.to (enough a.more a.asks))
-      by_act (Ends fit last f) = subst (λ (y : Acted). EndsAs (questions (once g now w words)) (honest (goes_on y))) (sym f.acts) (ends_anywhere fit last f (questions (once g now w words)) (at Done 1))
-      by_act (Unfit guard unfit site acts) = subst (λ (y : Acted). EndsAs (questions (once g now w words)) (honest (goes_on y))) (sym acts) (refuses_here (questions (once g now w words)) guard)
+      by_act : CleanAct e now w loan steps asked w.place.phase → EndsAs (weighed (once g now w words)) (honest (goes_on (honest (act_tree g now w words))))
+      by_act (Goes fit a) = subst (λ (y : Acted). EndsAs (weighed (once g now w words)) (honest (goes_on y))) (sym a.acts) (goes_anywhere fit a (weighed (once g now w words)) a.to (enough a.more a.asks))
+      by_act (Ends fit last f) = subst (λ (y : Acted). EndsAs (weighed (once g now w words)) (honest (goes_on y))) (sym f.acts) (ends_anywhere fit last f (weighed (once g now w words)) (at Done 1))
+      by_act (Unfit guard unfit site acts) = subst (λ (y : Acted). EndsAs (weighed (once g now w words)) (honest (goes_on y))) (sym acts) (refuses_here (weighed (once g now w words)) guard)
 
   -- the act is made twice
-  made_twice : CleanAct e now w loan steps asked w.place.phase → EndsAs (questions (bound (act_tree g now w words) (twice g later))) (honest (bound (act_tree g now w words) (twice g later)))
+  made_twice : CleanAct e now w loan steps asked w.place.phase → EndsAs (weighed (bound (act_tree g now w words) (twice g later))) (honest (bound (act_tree g now w words) (twice g later)))
   made_twice act = subst (λ (x : Turn). EndsAs all x) (sym (honest_bound (act_tree g now w words) (twice g later))) (by_act act)
     where
       all : ℕ
-      all = questions (bound (act_tree g now w words) (twice g later))
+      all = weighed (bound (act_tree g now w words) (twice g later))
 
-      sum : all ≡ questions (act_tree g now w words) + questions (twice g later (honest (act_tree g now w words)))
-      sum = questions_bound (act_tree g now w words) (twice g later)
+      sum : all ≡ weighed (act_tree g now w words) + weighed (twice g later (honest (act_tree g now w words)))
+      sum = weighed_bound (act_tree g now w words) (twice g later)
 
       by_act : CleanAct e now w loan steps asked w.place.phase → EndsAs all (honest (twice g later (honest (act_tree g now w words))))
       by_act (Goes fit a) =
-          let first : a.more ≤ questions (act_tree g now w words) = a.asks in
-          let second : questions (twice g later (honest (act_tree g now w words))) ≡ questions (once g later a.walk a.left) = ap (λ (y : Acted). questions (twice g later y)) a.acts in
+          let first : a.more ≤ weighed (act_tree g now w words) = a.asks in
+          let second : weighed (twice g later (honest (act_tree g now w words))) ≡ weighed (once g later a.walk a.left) = ap (λ (y : Acted). weighed (twice g later y)) a.acts in
           subst (λ (y : Acted). EndsAs all (honest (twice g later y))) (sym a.acts) (goes_again fit a all (omega (arith, first, second, sum)))
       by_act (Ends fit last f) = subst (λ (y : Acted). EndsAs all (honest (twice g later y))) (sym f.acts) (ends_again fit last f all)
       by_act (Unfit guard unfit site acts) = subst (λ (y : Acted). EndsAs all (honest (twice g later y))) (sym acts) (refuses_here all guard)
 
-  often : (act : Act) (times : Times) → EndsAs (questions (turn_as g now later w words act times)) (honest (turn_as g now later w words act times))
+  often : (act : Act) (times : Times) → EndsAs (weighed (turn_as g now later w words act times)) (honest (turn_as g now later w words act times))
   often act Once = made_once acts_there
-  often act Skip = skips 1 act
+  often act Skip = skips 0 act
   often act Twice = made_twice acts_there
 
   in_once : (x : Turn) (n : ℕ) → StruckBound (act_tree g now w words) goes_on x n → EndsAs n x
@@ -359,9 +358,9 @@ module _ (e : Errand) (trusted : IsTrusted e) (laws : (phase : Phase) → (phase
   pub strikes_well : (site : Option Act) (x : Turn) (n : ℕ) → StruckRun (turn_at g now later w words site) x n → EndsAs n x
   strikes_well None x n run = absurd run
   strikes_well (Some act) x n (inl h) =
-      let number : n ≡ 1 + questions (turn_as g now later w words act h.answer) = h.asked in
+      let number : n ≡ 0 + weighed (turn_as g now later w words act h.answer) = h.asked in
       subst (λ (y : Turn). EndsAs n y) (sym h.end)
-      (raised e (StruckStands e) (left_of loan) (phase_number w.place.phase) (asked + questions (turn_as g now later w words act h.answer)) (asked + n) (honest (turn_as g now later w words act h.answer)) (omega (arith, number)) (often act h.answer))
+      (raised e (StruckStands e) (left_of loan) (phase_number w.place.phase) (asked + weighed (turn_as g now later w words act h.answer)) (asked + n) (honest (turn_as g now later w words act h.answer)) (omega (arith, number)) (often act h.answer))
   strikes_well (Some act) x n (inr (m, is, run)) =
       raised e (StruckStands e) (left_of loan) (phase_number w.place.phase) (asked + m) (asked + n) x (omega (arith, is)) (in_once x m (struck_bound (act_tree g now w words) goes_on x m run))
 
@@ -390,23 +389,23 @@ module _ (e : Errand) (trusted : IsTrusted e) (laws : (phase : Phase) → (phase
       (wants_nothing e (left_of loan words) (phase_number w.place.phase) asked w nothing gate)
 
   -- a step at this site whose act ends so
-  by_site : (site : Option Act) (act : Act) (y : Acted) → site ≡ Some act → honest (act_tree g now w words) ≡ y → CleanEndsAs (questions (act_tree g now w words)) (honest (goes_on y)) →
-      CleanEndsAs (questions (turn_at g now later w words site)) (honest (turn_at g now later w words site))
+  by_site : (site : Option Act) (act : Act) (y : Acted) → site ≡ Some act → honest (act_tree g now w words) ≡ y → CleanEndsAs (weighed (act_tree g now w words)) (honest (goes_on y)) →
+      CleanEndsAs (weighed (turn_at g now later w words site)) (honest (turn_at g now later w words site))
   by_site site act y is acts well =
-      let sum = questions_bound (act_tree g now w words) goes_on in
+      let sum = weighed_bound (act_tree g now w words) goes_on in
       let ends : honest (goes_on y) ≡ honest (once g now w words) = sym (honest_bound (act_tree g now w words) goes_on ∙ ap (λ (z : Acted). honest (goes_on z)) acts) in
-      let n : ℕ = 1 + questions (once g now w words) in
-      let more = raised e (CleanStands e (suc steps)) (left_of loan) (phase_number w.place.phase) (asked + questions (act_tree g now w words)) (asked + n) (honest (goes_on y)) (omega (arith, sum)) well in
-      subst (λ (o : Option Act). CleanEndsAs (questions (turn_at g now later w words o)) (honest (turn_at g now later w words o))) (sym is)
+      let n : ℕ = 0 + weighed (once g now w words) in
+      let more = raised e (CleanStands e (suc steps)) (left_of loan) (phase_number w.place.phase) (asked + weighed (act_tree g now w words)) (asked + n) (honest (goes_on y)) (omega (arith, sum)) well in
+      subst (λ (o : Option Act). CleanEndsAs (weighed (turn_at g now later w words o)) (honest (turn_at g now later w words o))) (sym is)
       (subst (λ (x : Turn). CleanEndsAs n x) ends more)
 
-  pub stays_clean : CleanEndsAs (questions (turn_at g now later w words (site_of e.service w))) (honest (turn_at g now later w words (site_of e.service w)))
+  pub stays_clean : CleanEndsAs (weighed (turn_at g now later w words (site_of e.behavior w))) (honest (turn_at g now later w words (site_of e.behavior w)))
   stays_clean = by_act acts_there
     where
-      by_act : CleanAct e now w loan steps asked w.place.phase → CleanEndsAs (questions (turn_at g now later w words (site_of e.service w))) (honest (turn_at g now later w words (site_of e.service w)))
-      by_act (Goes fit a) = by_site (site_of e.service w) a.act (acted a.walk a.left (Leads a.to)) a.site a.acts (clean_goes fit a (questions (act_tree g now w words)) a.asks)
-      by_act (Ends fit last f) = by_site (site_of e.service w) f.act (acted f.walk f.left (Leads (at Done 1))) f.site f.acts (clean_ends fit last f (questions (act_tree g now w words)))
-      by_act (Unfit guard unfit site acts) = by_site (site_of e.service w) Plain (acted w words Refuses) site acts (clean_refuses (questions (act_tree g now w words)) guard unfit)
+      by_act : CleanAct e now w loan steps asked w.place.phase → CleanEndsAs (weighed (turn_at g now later w words (site_of e.behavior w))) (honest (turn_at g now later w words (site_of e.behavior w)))
+      by_act (Goes fit a) = by_site (site_of e.behavior w) a.act (acted a.walk a.left (Leads a.to)) a.site a.acts (clean_goes fit a (weighed (act_tree g now w words)) a.asks)
+      by_act (Ends fit last f) = by_site (site_of e.behavior w) f.act (acted f.walk f.left (Leads (at Done 1))) f.site f.acts (clean_ends fit last f (weighed (act_tree g now w words)))
+      by_act (Unfit guard unfit site acts) = by_site (site_of e.behavior w) Plain (acted w words Refuses) site acts (clean_refuses (weighed (act_tree g now w words)) guard unfit)
 
 -- A step behind a strike.
 
@@ -416,20 +415,20 @@ module _ (e : Errand) (laws : (phase : Phase) → (phase ≡ Guard → ⊥) → 
   StruckEndsAs n x = EndsWell e (StruckStands e) (left_of loan) w.gate.done (asked + n) x
 
   one_act : StruckCase e w (lent_words loan) asked → (w.gate.done ≡ phase_number w.place.phase → LendsIn w.wanted w.place.phase loan) →
-      StruckEndsAs (questions (once (given_with e loan) now w (words_of loan))) (honest (once (given_with e loan) now w (words_of loan)))
+      StruckEndsAs (weighed (once (given_with e loan) now w (words_of loan))) (honest (once (given_with e loan) now w (words_of loan)))
   one_act (Right gate stands) lends =
-      subst (λ (n : ℕ). EndsWell e (StruckStands e) (left_of loan) n (asked + questions (once (given_with e loan) now w (words_of loan))) (honest (once (given_with e loan) now w (words_of loan)))) (sym gate)
+      subst (λ (n : ℕ). EndsWell e (StruckStands e) (left_of loan) n (asked + weighed (once (given_with e loan) now w (words_of loan))) (honest (once (given_with e loan) now w (words_of loan)))) (sym gate)
       (right_once e laws loan now w (words_of loan) small told asked nothing gate sealed (lends gate)
       (subst (λ (lent : Option (List ℕ)). StruckIn e w lent asked w.place.phase) (lent_is_left loan) stands))
   one_act (Lost gate fit) lends =
-      raised e (StruckStands e) (left_of loan) w.gate.done asked (asked + questions (once (given_with e loan) now w (words_of loan))) (honest (once (given_with e loan) now w (words_of loan))) (omega arith)
+      raised e (StruckStands e) (left_of loan) w.gate.done asked (asked + weighed (once (given_with e loan) now w (words_of loan))) (honest (once (given_with e loan) now w (words_of loan))) (omega arith)
       (lost_quietly e laws loan now w (words_of loan) lost gate fit sealed asked nothing)
 
   pub stays_well : StruckCase e w (lent_words loan) asked → (w.gate.done ≡ phase_number w.place.phase → LendsIn w.wanted w.place.phase loan) → (site : Option Act) →
-      StruckEndsAs (questions (turn_at (given_with e loan) now later w (words_of loan) site)) (honest (turn_at (given_with e loan) now later w (words_of loan) site))
+      StruckEndsAs (weighed (turn_at (given_with e loan) now later w (words_of loan) site)) (honest (turn_at (given_with e loan) now later w (words_of loan) site))
   stays_well stands lends None =
       comes_well e (StruckStands e) (left_of loan) w.gate.done (asked + 0) asked asked w (words_of loan) w.place (aborted w.place.phase (Table w.place.index)) (omega arith) (omega arith) tt
       (wants_nothing e (left_of loan (words_of loan)) w.gate.done asked w nothing refl)
   stays_well stands lends (Some act) =
-      raised e (StruckStands e) (left_of loan) w.gate.done (asked + questions (once (given_with e loan) now w (words_of loan))) (asked + (1 + questions (once (given_with e loan) now w (words_of loan))))
+      raised e (StruckStands e) (left_of loan) w.gate.done (asked + weighed (once (given_with e loan) now w (words_of loan))) (asked + (0 + weighed (once (given_with e loan) now w (words_of loan))))
       (honest (once (given_with e loan) now w (words_of loan))) (omega arith) (one_act stands lends)

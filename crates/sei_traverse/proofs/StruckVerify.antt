@@ -7,18 +7,17 @@ use Rattle.std.proofs.lemmas.Bool.{ltb-false}
 use Rattle.std.proofs.lemmas.Bool.Decides.{nat_tests}
 use Rattle.sei_code.specs.Kept.{Kept, emptied}
 use Rattle.sei_compare.specs.Comparing.{word_at, word_read, word_outcome, is_message, wire_tree}
-use Rattle.sei_compare.proofs.CompareLaws.{word_at-honest, word_outcome-new, is_message-one}
+use Rattle.sei_compare.proofs.Public.{word_at-honest, word_outcome-new, is_message-one}
 use Rattle.sei_fault.specs.declared.cause.AbortCause.{AbortCause}
 use Rattle.sei_fault.specs.declared.cause.AbortCause.TheVariants.{Gate, Range, Differs, Wire as Wires}
 use Rattle.sei_fault.specs.declared.place.Phase.TheVariants.{Verify, Enter}
-use Rattle.sei_fault.specs.Tree.{honest, questions, bound, Always}
-use Rattle.sei_fault.proofs.Bound.{honest_bound}
-use Rattle.sei_fault.proofs.Runs.{always_honest}
-use Rattle.sei_fault.proofs.StruckRuns.{always_struck}
+use Rattle.sei_fault.specs.Tree.{honest, bound, Always}
+use Rattle.sei_fault.specs.Weights.{weighed}
+use Rattle.sei_fault.proofs.Public.{honest_bound, always_honest, always_struck}
 use Rattle.sei_gate.specs.Closing.{risen}
 use Rattle.sei_log.specs.Changes.{applied, Stands}
 use Rattle.sei_log.specs.declared.log.Change.{Change}
-use Rattle.sei_log.proofs.ChangeLaws.{applied_there, applied_off, get_past, lt_or}
+use Rattle.sei_log.proofs.Public.{applied_there, applied_off, get_past, lt_or}
 use Rattle.sei_pass.specs.State.{PassState}
 use Rattle.sei_restore.specs.Undoing.{LeadsTo}
 use Rattle.sei_stmt.specs.Handling.{refilled}
@@ -30,6 +29,7 @@ use Rattle.sei_traverse.specs.Acts.{acted, ends, at, closes}
 use Rattle.sei_traverse.specs.Comes.{at_time}
 use Rattle.sei_traverse.specs.Errand.{Errand, first_setting, first_start, Whole}
 use Rattle.sei_traverse.specs.Phases.{reply_of, word_to, copy_bytes, wire_to, verify_copy, verify_tree}
+use Rattle.sei_traverse.proofs.AlikeLaws.{applied_alike}
 use Rattle.sei_traverse.specs.Struck.{IsAimed, IsHonestResult, IsDoubted, WordsStruck, VerifyStruck, On}
 use Rattle.sei_traverse.specs.Struck.WordsStruck.{Fine, Doubt}
 use Rattle.sei_traverse.specs.Trusted.{IsTrusted}
@@ -138,7 +138,8 @@ all_read e trusted w words asked d outputs le =
     let same : words ≡ d.end.words =
     sym there
     ∙ applied_off w.second_log.items words e.taken d.off
-    ∙ ap (λ (l : List Change). applied l e.taken) (sym d.logs ∙ ap (λ (k : Kept Change). k.items) d.was.first.first_log)
+    ∙ sym (applied_alike w.first_log.items w.second_log.items e.taken d.logs)
+    ∙ ap (λ (k : Kept Change). applied k.items e.taken) d.was.first.first_log
     ∙ whole_applied e d.was.time d.was.made d.end d.was.whole in
     answers_whole e d.was.time d.was.made d.end d.was.whole trusted w words asked d.was.aimed d.was.first.notes same
     (sym outputs ∙ ap (λ (p : PassState). p.bytes.items) d.was.first.first) d.was.questions
@@ -240,5 +241,5 @@ verify_laws e trusted = record {
       (fine_always e w words asked (asked + n) (no_less asked n) nothing i.is.gate (both_answers e trusted w (Some words) i.time i.made i.end asked knows i.both)
       (clean_outputs e w (Some words) i.time i.made i.end asked i.both) w.place.index (nat_lt w.place.index (length w.second_log.items)) refl (clean_wire e w (Some words) steps asked i)) run;
   honest_on = λ now small told w words asked nothing gate sealed s.
-      words_honest e trusted w words asked (asked + questions (verify_tree w.place.index w words)) (no_less asked (questions (verify_tree w.place.index w words))) nothing gate s.outputs s.stand;
+      words_honest e trusted w words asked (asked + weighed (verify_tree w.place.index w words)) (no_less asked (weighed (verify_tree w.place.index w words))) nothing gate s.outputs s.stand;
 }

@@ -1,6 +1,6 @@
 -- A first pass until the clock is asked is the same whatever the time will be.
 use Rattle.std.proofs.Common.{◌≡◌, ℕ, zero, suc, ◌+◌, ◌-◌, ◌^◌, ◌<◌, ◌≤◌, ◌⊎◌, inl, inr, Bool, true, false, List, [], ◌∷◌, ◌++◌, Option, Some, None, ap, sym, ◌∙◌, arith, refl, subst}
-use Rattle.std.specs.Prelude.{if◌then◌else◌, nat_lt, slice_get}
+use Rattle.std.specs.Prelude.{nat_lt, slice_get}
 use Rattle.std.proofs.Math.Path.{fun_ext}
 use Rattle.std.proofs.lemmas.Bool.{cases_lt}
 use Rattle.sei_code.specs.Codes.{message_code}
@@ -8,20 +8,21 @@ use Rattle.sei_code.specs.Coded.{sealed}
 use Rattle.sei_code.specs.declared.coded.Coded.{Coded}
 use Rattle.sei_log.specs.declared.notes.Notes.{Notes}
 use Rattle.sei_fault.specs.declared.cause.AbortCause.{AbortCause}
-use Rattle.sei_fault.specs.Tree.{Tree, honest, questions}
+use Rattle.sei_fault.specs.Tree.{Tree, honest}
+use Rattle.sei_fault.specs.Weights.{weighed}
 use Rattle.sei_fault.specs.Tree.Tree.{Ask}
 use Rattle.sei_fault.specs.Question.Question.{Value}
 use Rattle.sei_stmt.specs.declared.stmt.Stmt.{Stmt}
 use Rattle.sei_stmt.specs.declared.stmt.Stmt.TheVariants.{Now, Render}
-use Rattle.sei_stmt.specs.Machine.{Machine, Setting, Outcome, After, one_made, ends}
+use Rattle.sei_stmt.specs.Machine.{Machine, Setting, Outcome, After, one_made}
 use Rattle.sei_stmt.specs.Machine.Outcome.{Next, Halted, Bad}
-use Rattle.sei_stmt.specs.Asked.{making}
+use Rattle.sei_stmt.specs.Weights.{making, weighed_in, weighed_after}
 use Rattle.sei_stmt.specs.Statements.{now_tree, render_bytes, render_words, statement_tree, count_if, found_tree, step_tree}
 use Rattle.sei_stmt.proofs.PublicStatementRuns.{by_statements}
-use Rattle.sei_stmt.specs.Honest.{after, onward, onward_from, asked_in, asked_after, HonestRun}
+use Rattle.sei_stmt.specs.Honest.{after, onward, onward_from, HonestRun}
 use Rattle.sei_stmt.specs.Order.{finished, stage_onward, stage_after}
 use Rattle.sei_stmt.specs.Sound.{RisesFrom}
-use Rattle.sei_stmt.proofs.HonestLaws.{after_one, still_halted, halts_or_aborts, halts_or_goes_on}
+use Rattle.sei_stmt.proofs.Public.{after_one, still_halted, halts_or_aborts, halts_or_goes_on}
 use Rattle.sei_traverse.specs.Comes.{at_time, again, Agrees, Comes, EndsAt, EndsAlways}
 use Rattle.sei_traverse.specs.Errand.{no_notes}
 use Rattle.sei_traverse.proofs.NoteLaws.{now_kept, stage_of, untimed_before}
@@ -61,8 +62,8 @@ onward_again g t m (Next i) = ap (λ (tree : Tree After). honest tree) (timeless
 onward_again g t m Halted = refl
 onward_again g t m (Bad cause) = refl
 
-asked_again : (g : Setting) (t : ℕ) (m : Machine) (o : Outcome) → asked_in (at_time (again g) t) m o ≡ asked_in (again g) m o
-asked_again g t m (Next i) = ap (λ (tree : Tree After). questions tree) (timeless_again g t i m)
+asked_again : (g : Setting) (t : ℕ) (m : Machine) (o : Outcome) → weighed_in (at_time (again g) t) m o ≡ weighed_in (again g) m o
+asked_again g t m (Next i) = ap (λ (tree : Tree After). weighed tree) (timeless_again g t i m)
 asked_again g t m Halted = refl
 asked_again g t m (Bad cause) = refl
 
@@ -72,13 +73,13 @@ after_again g t start zero = refl
 after_again g t start (suc n) =
     ap (onward (at_time (again g) t)) (after_again g t start n) ∙ onward_again g t (after (again g) start n).machine (after (again g) start n).outcome
 
-pub asked_after_again : (g : Setting) (t : ℕ) (start : Machine) (n : ℕ) → asked_after (at_time (again g) t) start n ≡ asked_after (again g) start n
-asked_after_again g t start zero = refl
-asked_after_again g t start (suc n) =
-    let here : asked_in (at_time (again g) t) (after (at_time (again g) t) start n).machine (after (at_time (again g) t) start n).outcome
-    ≡ asked_in (again g) (after (again g) start n).machine (after (again g) start n).outcome =
-    ap (λ (x : After). asked_in (at_time (again g) t) x.machine x.outcome) (after_again g t start n) ∙ asked_again g t (after (again g) start n).machine (after (again g) start n).outcome in
-    omega (arith, here, asked_after_again g t start n)
+pub weighed_after_again : (g : Setting) (t : ℕ) (start : Machine) (n : ℕ) → weighed_after (at_time (again g) t) start n ≡ weighed_after (again g) start n
+weighed_after_again g t start zero = refl
+weighed_after_again g t start (suc n) =
+    let here : weighed_in (at_time (again g) t) (after (at_time (again g) t) start n).machine (after (at_time (again g) t) start n).outcome
+    ≡ weighed_in (again g) (after (again g) start n).machine (after (again g) start n).outcome =
+    ap (λ (x : After). weighed_in (at_time (again g) t) x.machine x.outcome) (after_again g t start n) ∙ asked_again g t (after (again g) start n).machine (after (again g) start n).outcome in
+    omega (arith, here, weighed_after_again g t start n)
 
 -- one honest step more of a first pass
 
@@ -114,10 +115,10 @@ timed_step : (g : Setting) (m : Machine) (i to t : ℕ) → g.reading ≡ false 
 timed_step g m i to t first is =
     ap (λ (b : Bool). step_tree (record (at_time g t) { reading = b }) i m) first ∙ ap (found_tree (making (at_time g t)) i m) is
 
-asked_one : (g : Setting) (start m : Machine) (i n q : ℕ) (tree : Tree After) → after g start n ≡ record { machine = m; outcome = Next i } → asked_after g start n ≡ q → step_tree g i m ≡ tree →
-    asked_after g start (suc n) ≡ q + questions tree
+asked_one : (g : Setting) (start m : Machine) (i n q : ℕ) (tree : Tree After) → after g start n ≡ record { machine = m; outcome = Next i } → weighed_after g start n ≡ q → step_tree g i m ≡ tree →
+    weighed_after g start (suc n) ≡ q + weighed tree
 asked_one g start m i n q tree e f h =
-    ap (λ (x : After). asked_after g start n + asked_in g x.machine x.outcome) e ∙ ap (λ k. k + questions (step_tree g i m)) f ∙ ap (λ (x : Tree After). q + questions x) h
+    ap (λ (x : After). weighed_after g start n + weighed_in g x.machine x.outcome) e ∙ ap (λ k. k + weighed (step_tree g i m)) f ∙ ap (λ (x : Tree After). q + weighed x) h
 
 module _ (g : Setting) (start : Machine) (first : g.reading ≡ false) (blank : start.notes ≡ no_notes) (always : EndsAlways g start) where
   -- where the run goes on it has not ended
@@ -138,7 +139,7 @@ module _ (g : Setting) (start : Machine) (first : g.reading ≡ false) (blank : 
       untimed_before (at_time g c.time) start first blank n i to s.0 m here is s.1
 
   comes_untimed : (n i q t : ℕ) (m : Machine) → Comes g start n (record { machine = m; outcome = Next i }) q → ((to : ℕ) → slice_get g.statements i ≡ Some (Now to) → ⊥) →
-      Comes g start (suc n) (honest (step_tree (at_time g t) i m)) (q + questions (step_tree (at_time g t) i m))
+      Comes g start (suc n) (honest (step_tree (at_time g t) i m)) (q + weighed (step_tree (at_time g t) i m))
   comes_untimed n i q t m c other =
       let kept : (honest (step_tree (at_time g t) i m)).machine.notes.now ≡ m.notes.now = now_kept (at_time g t) i m other in
       let same : (now : ℕ) → step_tree (at_time g now) i m ≡ step_tree (at_time g t) i m = λ now. timeless g now i m other ∙ sym (timeless g t i m other) in
@@ -150,7 +151,7 @@ module _ (g : Setting) (start : Machine) (first : g.reading ≡ false) (blank : 
       }
 
   comes_timed : (n i to q t : ℕ) (m : Machine) (enough : Bool) → t < 2 ^ 64 → Comes g start n (record { machine = m; outcome = Next i }) q → slice_get g.statements i ≡ Some (Now to) →
-      ((now : ℕ) → step_tree (at_time g now) i m ≡ timing g m i to enough now) → Comes g start (suc n) (honest (timing g m i to enough t)) (q + questions (timing g m i to enough t))
+      ((now : ℕ) → step_tree (at_time g now) i m ≡ timing g m i to enough now) → Comes g start (suc n) (honest (timing g m i to enough t)) (q + weighed (timing g m i to enough t))
   comes_timed n i to q t m true lt c is each =
       let none = none_noted n i to q m c is in
       let before : (now : ℕ) → now < 2 ^ 64 → Agrees m.notes.now now = λ now h. subst (λ o. Agrees o now) (sym none) h in
@@ -171,12 +172,12 @@ module _ (g : Setting) (start : Machine) (first : g.reading ≡ false) (blank : 
 
   -- one honest step more at any time of the clock
   pub comes_on : (n i q t : ℕ) (m : Machine) → Comes g start n (record { machine = m; outcome = Next i }) q → t < 2 ^ 64 →
-      Comes g start (suc n) (honest (step_tree (at_time g t) i m)) (q + questions (step_tree (at_time g t) i m))
+      Comes g start (suc n) (honest (step_tree (at_time g t) i m)) (q + weighed (step_tree (at_time g t) i m))
   comes_on n i q t m c lt = by_statement (asks (slice_get g.statements i))
     where
-      by_statement : Asks (slice_get g.statements i) → Comes g start (suc n) (honest (step_tree (at_time g t) i m)) (q + questions (step_tree (at_time g t) i m))
+      by_statement : Asks (slice_get g.statements i) → Comes g start (suc n) (honest (step_tree (at_time g t) i m)) (q + weighed (step_tree (at_time g t) i m))
       by_statement (Timed to is) =
-          subst (λ (x : Tree After). Comes g start (suc n) (honest x) (q + questions x)) (sym (timed_step g m i to t first is))
+          subst (λ (x : Tree After). Comes g start (suc n) (honest x) (q + weighed x)) (sym (timed_step g m i to t first is))
           (comes_timed n i to q t m (nat_lt m.made g.budget) lt c is (λ now. timed_step g m i to now first is))
       by_statement (Untimed other) = comes_untimed n i q t m c other
 

@@ -15,14 +15,12 @@ use Rattle.sei_stmt.specs.Passes.{Space, notes_of}
 use Rattle.sei_stmt.specs.Passes.IsTold.{ByNotes}
 use Rattle.sei_stmt.specs.Sound.{Serves}
 use Rattle.sei_stmt.specs.Sound.Serves.{Well, Unfit}
-use Rattle.sei_stmt.proofs.HonestLaws.{halts_or_aborts}
-use Rattle.sei_stmt.proofs.Invariant.{one_end}
-use Rattle.sei_stmt.proofs.Relog.{IsGoing}
+use Rattle.sei_stmt.proofs.Public.{halts_or_aborts, one_end, IsGoing}
 use Rattle.sei_pass.specs.Setting.{call_at}
 use Rattle.sei_traverse.specs.Comes.{renoted, renoted_end}
 use Rattle.sei_traverse.specs.declared.walk.Walk.{Walk}
 use Rattle.sei_traverse.specs.Errand.{Errand, IsErrand, first_setting, first_start, given_in}
-use Rattle.sei_traverse.specs.Service.{has_call, has_sealed_call, call_of}
+use Rattle.sei_traverse.specs.Given.{has_call, has_sealed_call, call_of}
 use Rattle.sei_traverse.specs.Sound.{IsServedBy, IsModelAnswer}
 use Rattle.sei_traverse.specs.Struck.{IsHonestResult}
 use Rattle.sei_traverse.specs.Trusted.{PassesGuard, second_setting, ReadsNotes, IsTrusted}
@@ -42,23 +40,23 @@ call_index parsed (Some n) p e = (n, refl)
 module _ {B : Type 0} (space : List ℕ → ℕ → Space) (Before Stands : List ℕ → B → Type 0) (answer : List ℕ → ℕ → B → ℕ → B × List ℕ) (e : Errand) (h : IsServedBy space Before Stands answer e) where
   has_called : has_sealed_call (given_in e) e.sealed ≡ true → call_of (given_in e) e.sealed ≡ Some e.call
   has_called has =
-      let i = has_index (e.service.calls e.input) (read_of e.sealed.nth) has in
+      let i = has_index (e.behavior.calls e.input) (read_of e.sealed.nth) has in
       let found = h.handler.counted e.input i.0 i.1 i.3 i.4 in
-      let called : call_of (given_in e) e.sealed ≡ Some found.0 = ap (call_at (e.service.parsed e.input)) i.2 ∙ found.1 in
+      let called : call_of (given_in e) e.sealed ≡ Some found.0 = ap (call_at (e.behavior.parsed e.input)) i.2 ∙ found.1 in
       called ∙ ap (λ (p : Parsed). let o : Option Parsed = Some p in o) (sym (h.call found.0 called))
 
   called_has : (p : Parsed) → call_of (given_in e) e.sealed ≡ Some p → has_sealed_call (given_in e) e.sealed ≡ true
   called_has p called =
-      let i = call_index (e.service.parsed e.input) (read_of e.sealed.nth) p called in
-      let c = h.handler.found e.input i.0 p (ap (call_at (e.service.parsed e.input)) (sym i.1) ∙ called) in
-      ap (has_call (e.service.calls e.input)) i.1 ∙ ap (λ o. has_call o (Some i.0)) c.1 ∙ lt-ltb i.0 c.0 c.2
+      let i = call_index (e.behavior.parsed e.input) (read_of e.sealed.nth) p called in
+      let c = h.handler.found e.input i.0 p (ap (call_at (e.behavior.parsed e.input)) (sym i.1) ∙ called) in
+      ap (has_call (e.behavior.calls e.input)) i.1 ∙ ap (λ o. has_call o (Some i.0)) c.1 ∙ lt-ltb i.0 c.0 c.2
 
   -- of a fit input, the index of its call
   nth_of : PassesGuard e → (n : ℕ) × (read_of e.sealed.nth ≡ Some n)
-  nth_of fit = call_index (e.service.parsed e.input) (read_of e.sealed.nth) e.call fit.called
+  nth_of fit = call_index (e.behavior.parsed e.input) (read_of e.sealed.nth) e.call fit.called
 
-  parsed_at : (fit : PassesGuard e) → e.service.parsed e.input (nth_of fit).0 ≡ Some e.call
-  parsed_at fit = ap (call_at (e.service.parsed e.input)) (sym (nth_of fit).1) ∙ fit.called
+  parsed_at : (fit : PassesGuard e) → e.behavior.parsed e.input (nth_of fit).0 ≡ Some e.call
+  parsed_at fit = ap (call_at (e.behavior.parsed e.input)) (sym (nth_of fit).1) ∙ fit.called
 
   -- the second pass by notes of a time and a slot
   serves_noted : (fit : PassesGuard e) (time slot : ℕ) → time < 2 ^ 64 →
@@ -93,7 +91,7 @@ module _ {B : Type 0} (space : List ℕ → ℕ → Space) (Before Stands : List
         says : Says notes.now 0
         says = nothing_says notes.now 0 silent
 
-        untaken : (n i to : ℕ) → (after (second_setting e) (renoted (notes_of 0 slot_is.0) (first_start e)) n).outcome ≡ Next i → slice_get e.service.statements i ≡ Some (Now to) → ⊥
+        untaken : (n i to : ℕ) → (after (second_setting e) (renoted (notes_of 0 slot_is.0) (first_start e)) n).outcome ≡ Next i → slice_get e.behavior.statements i ≡ Some (Now to) → ⊥
         untaken n i to next = untimed_run (first_setting e) (first_start e) notes silent going (notes_left 0 says) n i to (sym (ap (λ (x : After). x.outcome) (one_run 0 says n)) ∙ next)
 
         by_end : Serves (second_setting e) (λ ws. Stands ws (answer e.input (nth_of fit).0 h.held 0).0) (answer e.input (nth_of fit).0 h.held 0).1 (renoted (notes_of 0 slot_is.0) (first_start e)) → ⊥

@@ -7,14 +7,15 @@ use Rattle.sei_fault.specs.declared.place.Times.TheVariants.{Skip}
 use Rattle.sei_fault.specs.Question.{Question, Answer}
 use Rattle.sei_fault.specs.Question.Question.{Often}
 use Rattle.sei_fault.specs.Tree.{Runs, bound}
-use Rattle.sei_fault.proofs.Runs.{runs_bound}
-use Rattle.sei_pass.proofs.StepLaws.{some_answer}
+use Rattle.sei_fault.proofs.Public.{runs_bound}
+use Rattle.sei_pass.proofs.Public.{some_answer}
 use Rattle.sei_words.specs.Loan.{Place, place_of, bucket_of}
 use Rattle.sei_words.specs.Words.{BucketWords}
 use Rattle.sei_traverse.specs.declared.walk.Ending.{Ending}
 use Rattle.sei_traverse.specs.declared.walk.Walk.{Walk}
 use Rattle.sei_traverse.specs.Acts.{acted}
-use Rattle.sei_traverse.specs.Service.{Service, Given, given_of}
+use Rattle.sei_traverse.specs.Given.{Given, given_of}
+use Rattle.sei_stmt.specs.Handling.{Behavior}
 use Rattle.sei_traverse.specs.Step.{Turn, skipped, goes, goes_from, goes_on, act_tree, once, twice, twice_from, turn_at, Timed, TimedTwice}
 
 bucket_by_place : (a : Option BucketWords) → option_map (λ (p : Place). p.bucket) (place_of a) ≡ bucket_of a
@@ -26,7 +27,7 @@ pub same_bucket : (a b : Option BucketWords) → place_of a ≡ place_of b → b
 same_bucket a b e = sym (bucket_by_place a) ∙ ap (option_map (λ (p : Place). p.bucket)) e ∙ bucket_by_place b
 
 -- so the act once more is given the same
-pub once_on : {S : Type 0} (gives : S → (q : Question) → Answer q → S → Type 0) (told : Option ℕ) (h : Service) (input : List ℕ) (g : PassSpace) (a b : Option BucketWords) (w : Walk) (words : List ℕ) (s t : S) (y : Turn) →
+pub once_on : {S : Type 0} (gives : S → (q : Question) → Answer q → S → Type 0) (told : Option ℕ) (h : Behavior) (input : List ℕ) (g : PassSpace) (a b : Option BucketWords) (w : Walk) (words : List ℕ) (s t : S) (y : Turn) →
     place_of a ≡ place_of b → Timed gives told (λ now. once (given_of h input g (bucket_of a)) now w words) s t y → Timed gives told (λ now. once (given_of h input g (bucket_of b)) now w words) s t y
 once_on gives told h input g a b w words s t y e r = subst (λ (n : Option ℕ). Timed gives told (λ now. once (given_of h input g n) now w words) s t y) (same_bucket a b e) r
 

@@ -5,7 +5,7 @@ use Rattle.sei_fault.specs.Counts.{Counts}
 use Rattle.sei_fault.specs.Phases.{phase_number}
 use Rattle.sei_fault.specs.declared.place.Phase.{Phase}
 use Rattle.sei_fault.specs.declared.place.Phase.TheVariants.{Guard, Take, First, Restore, Second, Compare, Verify, Enter, Give, Send, Done}
-use Rattle.sei_log.proofs.ChangeLaws.{equal_or}
+use Rattle.sei_log.proofs.Public.{equal_or}
 use Rattle.sei_pass.specs.State.{PassState}
 use Rattle.sei_words.specs.Words.{BucketWords}
 use Rattle.sei_traverse.specs.declared.turned.State.{State}

@@ -5,7 +5,8 @@ use Rattle.sei_code.specs.Coded.{sealed}
 use Rattle.sei_code.specs.declared.coded.Coded.{Coded}
 use Rattle.sei_log.specs.declared.notes.Notes.{Notes}
 use Rattle.sei_stmt.specs.Machine.{Machine, Setting, After, with_notes, at_outcome}
-use Rattle.sei_stmt.specs.Honest.{after, asked_after, HonestRun}
+use Rattle.sei_stmt.specs.Honest.{after, HonestRun}
+use Rattle.sei_stmt.specs.Weights.{weighed_after}
 use Rattle.sei_stmt.specs.Order.{stage_after, finished}
 use Rattle.sei_stmt.specs.Sound.{RisesFrom}
 
@@ -29,12 +30,13 @@ abbrev pub Agrees : Option Coded → ℕ → Type 0
 Agrees None now = now < 2 ^ 64
 Agrees (Some note) now = (note ≡ sealed now) × (now < 2 ^ 64)
 
--- n honest statements of a first pass lead here and ask so many questions, at each time that the noted one doesn't speak against
+-- n honest statements of a first pass lead here and their questions weigh so much, at each time that the noted one doesn't speak
+-- against
 pub record Comes (g : Setting) (start : Machine) (n : ℕ) (x : After) (questions : ℕ) : Type 0 where
   pub time : ℕ
   pub agrees : Agrees x.machine.notes.now time
   pub run : (now : ℕ) → Agrees x.machine.notes.now now → after (at_time g now) start n ≡ x
-  pub asked : (now : ℕ) → Agrees x.machine.notes.now now → asked_after (at_time g now) start n ≡ questions
+  pub asked : (now : ℕ) → Agrees x.machine.notes.now now → weighed_after (at_time g now) start n ≡ questions
 
 -- the pass at this time halts within its budget, made its statements in their order, changed words in rising order,
 -- and its output code is that of its output bytes

@@ -5,7 +5,7 @@ use Rattle.sei_code.specs.Kept.{empty_kept}
 use Rattle.sei_log.specs.declared.log.Change.{Change}
 use Rattle.sei_log.specs.declared.notes.Notes.{Notes}
 use Rattle.sei_pass.specs.declared.spaces.PassSpace.{PassSpace}
-use Rattle.sei_stmt.specs.Handling.{Parsed}
+use Rattle.sei_stmt.specs.Handling.{Behavior, Parsed}
 use Rattle.sei_stmt.specs.Honest.{HonestRun}
 use Rattle.sei_stmt.specs.Machine.{Machine, Setting}
 use Rattle.sei_stmt.specs.Order.{stage_after, finished}
@@ -16,12 +16,12 @@ use Rattle.sei_pass.specs.Setting.{is_intact}
 use Rattle.sei_pass.specs.State.{new_pass}
 use Rattle.sei_pass.specs.Steps.{machine_of}
 use Rattle.sei_traverse.specs.Comes.{at_time, EndsAlways}
-use Rattle.sei_traverse.specs.Service.{Service, Given, given_of, has_sealed_call, call_of, setting_in}
+use Rattle.sei_traverse.specs.Given.{Given, given_of, has_sealed_call, call_of, setting_in}
 
 -- a call of a sealed input, the words of its bucket when they were taken, and what the clock tells, where it tells
 -- the same at each step
 pub record Errand : Type 0 where
-  pub service : Service
+  pub behavior : Behavior
   pub input : List ℕ
   pub space : PassSpace
   pub sealed : Sealed
@@ -31,7 +31,7 @@ pub record Errand : Type 0 where
 
 -- what its steps are given
 abbrev pub given_in : Errand → Given
-given_in e = given_of e.service e.input e.space (Some e.call.bucket)
+given_in e = given_of e.behavior e.input e.space (Some e.call.bucket)
 
 abbrev pub no_notes : Notes
 no_notes = record { now = None; slot = None }

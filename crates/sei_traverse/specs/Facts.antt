@@ -13,7 +13,7 @@ use Rattle.sei_traverse.specs.declared.walk.Walk.{Walk}
 use Rattle.sei_traverse.specs.Errand.{Errand, given_in}
 use Rattle.sei_traverse.specs.OnWay.{lent_words, LendsIn, LendsBucket, IsClean, IsCleanEnd}
 use Rattle.sei_traverse.specs.Phases.{reply_of, send_want}
-use Rattle.sei_traverse.specs.Service.{FailsGuard}
+use Rattle.sei_traverse.specs.Given.{FailsGuard}
 use Rattle.sei_traverse.specs.State.{TraversalState}
 use Rattle.sei_traverse.specs.Struck.{IsAimed, IsHonestResult, On, HasCopyOfSome, StruckIn}
 use Rattle.sei_traverse.specs.Trusted.{PassesGuard}

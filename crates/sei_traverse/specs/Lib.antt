@@ -1,4 +1,5 @@
-pub mod Service
+pub mod Alike
+pub mod Given
 pub mod Acts
 pub mod Phases
 pub mod PassActs

@@ -11,7 +11,7 @@ use Rattle.sei_traverse.specs.declared.turned.Want.{Want}
 use Rattle.sei_traverse.specs.declared.walk.Walk.{Walk}
 use Rattle.sei_traverse.specs.Acts.{at}
 use Rattle.sei_traverse.specs.Errand.{Errand, TellsTime}
-use Rattle.sei_traverse.specs.Service.{Given, FailsGuard}
+use Rattle.sei_traverse.specs.Given.{Given, FailsGuard}
 use Rattle.sei_traverse.specs.State.{TraversalState}
 use Rattle.sei_traverse.specs.Unstruck.{want_in, NextIn, Clean, IsFinished}
 

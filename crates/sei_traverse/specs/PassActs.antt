@@ -12,7 +12,7 @@ use Rattle.sei_traverse.specs.declared.turned.Want.TheVariants.{Nothing}
 use Rattle.sei_traverse.specs.declared.walk.Ending.TheVariants.{Leads, Aborts}
 use Rattle.sei_traverse.specs.declared.walk.Walk.{Walk}
 use Rattle.sei_traverse.specs.Acts.{Acted, ends, at, closes}
-use Rattle.sei_traverse.specs.Service.{Given, setting_in}
+use Rattle.sei_traverse.specs.Given.{Given, setting_in}
 
 -- this pass with the machine's registers, lists, output code and number of statements
 abbrev pub pass_of : PassState → Machine → PassState
@@ -30,7 +30,7 @@ with_first w m = record w { first = pass_of w.first m; first_log = m.log; notes 
 abbrev pub with_second : Walk → Machine → Walk
 with_second w m = record w { second = pass_of w.second m; second_log = m.log; notes = m.notes }
 
--- how many questions are asked behind a statement: where it halts, the test that closes the phase
+-- what the questions weigh that are asked behind a statement: where it halts, the test that closes the phase
 abbrev pub asked_behind : Outcome → ℕ
 asked_behind (Next index) = 0
 asked_behind Halted = 1

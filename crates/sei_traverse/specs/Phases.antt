@@ -19,7 +19,7 @@ use Rattle.sei_traverse.specs.declared.turned.Want.TheVariants.{Nothing, Take as
 use Rattle.sei_traverse.specs.declared.walk.Ending.TheVariants.{Leads, Refuses, Aborts}
 use Rattle.sei_traverse.specs.declared.walk.Walk.{Walk}
 use Rattle.sei_traverse.specs.Acts.{Acted, ends, at, closing_then, closes}
-use Rattle.sei_traverse.specs.Service.{Given, has_sealed_call, bucket_of_call}
+use Rattle.sei_traverse.specs.Given.{Given, has_sealed_call, bucket_of_call}
 
 -- Guard: the input is the sealed one, and one whole request with the sealed call; otherwise it is refused
 

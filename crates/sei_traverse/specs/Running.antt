@@ -1,5 +1,5 @@
 -- Many steps of a traversal.
-use Rattle.std.specs.Prelude.{◌≡◌, ℕ, suc, ◌+◌, ◌-◌, ◌^◌, ◌≤◌, true, List, Option, min}
+use Rattle.std.specs.Prelude.{◌≡◌, ℕ, suc, ◌+◌, ◌-◌, ◌^◌, ◌≤◌, Bool, true, false, List, Option, min}
 use Rattle.sei_fault.specs.Chain.{Chain}
 use Rattle.sei_fault.specs.Counts.{Counts}
 use Rattle.sei_fault.specs.Question.{Question, Answer}
@@ -11,13 +11,15 @@ use Rattle.sei_pass.specs.declared.loops.Exit.{Exit}
 use Rattle.sei_pass.specs.declared.loops.Exit.TheVariants.{At, Halted, Bad, Struck, Alone}
 use Rattle.sei_pass.specs.declared.spaces.PassSpace.{PassSpace}
 use Rattle.sei_traverse.specs.declared.turned.Many.{Many}
+use Rattle.sei_traverse.specs.declared.turned.State.{State}
 use Rattle.sei_traverse.specs.declared.turned.State.TheVariants.{Went}
 use Rattle.sei_traverse.specs.declared.turned.Turned.{Turned}
 use Rattle.sei_traverse.specs.declared.turned.Want.TheVariants.{Nothing}
 use Rattle.sei_traverse.specs.declared.walk.Walk.{Walk}
 use Rattle.sei_traverse.specs.Acts.{at, closes}
 use Rattle.sei_traverse.specs.Noting.{NotesTime}
-use Rattle.sei_traverse.specs.Service.{Given, Service, given_of}
+use Rattle.sei_traverse.specs.Given.{Given, given_of}
+use Rattle.sei_stmt.specs.Handling.{Behavior}
 use Rattle.sei_traverse.specs.State.{TraversalState, IsTraversal, one_more, is_running}
 use Rattle.sei_traverse.specs.Step.{Turn, turn, aborted, next_phase, arrival, goes_on, turn_as, turn_tree, TimedTwice}
 
@@ -30,9 +32,17 @@ pub record On (S : Type 0) : Type 0 where
 abbrev pub on : {S : Type 0} → TraversalState → Option BucketWords → S → On S
 on traversal lent core = record { traversal = traversal; lent = lent; core = core }
 
--- one step of the definition, whatever the core answers, which turned out so
-pub record Makes {S : Type 0} (gives : S → (q : Question) → Answer q → S → Type 0) (counts : S → Counts) (told : Option ℕ) (service : Service) (input : List ℕ) (x y : On S) (t : Turned) : Type 0 where
-  pub turned : TimedTwice gives told (λ now later. turn_tree (given_of service input x.traversal.space (bucket_of x.lent)) now later x.traversal.walk (words_of x.lent)) x.core y.core (turn y.traversal.walk (words_of y.lent) t.state)
+-- one step of the definition, whatever the core answers, which leads there and turned out so
+pub record StepsTo {S : Type 0} (gives : S → (q : Question) → Answer q → S → Type 0) (told : Option ℕ) (behavior : Behavior) (input : List ℕ) (x y : On S) (state : State) : Type 0 where
+  pub turned : TimedTwice gives told (λ now later. turn_tree (given_of behavior input x.traversal.space (bucket_of x.lent)) now later x.traversal.walk (words_of x.lent)) x.core y.core (turn y.traversal.walk (words_of y.lent) state)
+  pub lent : place_of y.lent ≡ place_of x.lent
+  pub sealed : y.traversal.walk.sealed ≡ x.traversal.walk.sealed
+  pub space : y.traversal.space ≡ x.traversal.space
+  pub steps : y.traversal.steps ≡ one_more x.traversal.steps
+
+-- all that holds of such a step, as the code makes it
+pub record Makes {S : Type 0} (gives : S → (q : Question) → Answer q → S → Type 0) (counts : S → Counts) (told : Option ℕ) (behavior : Behavior) (input : List ℕ) (x y : On S) (t : Turned) : Type 0 where
+  pub turned : TimedTwice gives told (λ now later. turn_tree (given_of behavior input x.traversal.space (bucket_of x.lent)) now later x.traversal.walk (words_of x.lent)) x.core y.core (turn y.traversal.walk (words_of y.lent) t.state)
   pub want : t.want ≡ y.traversal.walk.want
   pub lent : place_of y.lent ≡ place_of x.lent
   pub sealed : y.traversal.walk.sealed ≡ x.traversal.walk.sealed
@@ -48,14 +58,14 @@ pub record Makes {S : Type 0} (gives : S → (q : Question) → Answer q → S �
   pub struck : (counts x.core).struck ≤ (counts y.core).struck
 
 -- one that wants nothing, and the traversal goes on
-abbrev pub Quiet : {S : Type 0} → (S → (q : Question) → Answer q → S → Type 0) → (S → Counts) → Option ℕ → Service → List ℕ → On S → On S → Type 0
-Quiet gives counts told service input x y = Makes gives counts told service input x y (record { want = Nothing; state = Went })
+abbrev pub Quiet : {S : Type 0} → (S → (q : Question) → Answer q → S → Type 0) → (S → Counts) → Option ℕ → Behavior → List ℕ → On S → On S → Type 0
+Quiet gives counts told behavior input x y = Makes gives counts told behavior input x y (record { want = Nothing; state = Went })
 
 -- n quiet steps, and one more that turned out so
-pub record RunsOn {S : Type 0} (gives : S → (q : Question) → Answer q → S → Type 0) (counts : S → Counts) (told : Option ℕ) (service : Service) (input : List ℕ) (n : ℕ) (x z : On S) (t : Turned) : Type 0 where
+pub record RunsOn {S : Type 0} (gives : S → (q : Question) → Answer q → S → Type 0) (counts : S → Counts) (told : Option ℕ) (behavior : Behavior) (input : List ℕ) (n : ℕ) (x z : On S) (t : Turned) : Type 0 where
   pub last : On S
-  pub chain : Chain (Quiet gives counts told service input) n x last
-  pub makes : Makes gives counts told service input last z t
+  pub chain : Chain (Quiet gives counts told behavior input) n x last
+  pub makes : Makes gives counts told behavior input last z t
 
 -- a traversal on this walk, which goes on
 abbrev pub begun_at : Walk → PassSpace → ℕ → TraversalState
@@ -72,3 +82,16 @@ rest g now later w words Halted = bound (closes w.place.phase w words Nothing (a
 rest g now later w words (Bad cause) = Ended (turn w words (aborted w.place.phase cause))
 rest g now later w words (Struck act times) = turn_as g now later w words act times
 rest g now later w words Alone = turn_tree g now later w words
+
+-- a step that was begun: it is whole, and the traversal goes on, or whatever does what is left of it makes it whole
+abbrev pub Begins : {S : Type 0} → (S → (q : Question) → Answer q → S → Type 0) → Option ℕ → Behavior → List ℕ → PassSpace → Walk → Option BucketWords → S → Walk → Option BucketWords → S → Exit → Bool → Type 0
+Begins gives told behavior input space w loan c v mid d exit true =
+    TimedTwice gives told (λ now later. turn_tree (given_of behavior input space (bucket_of loan)) now later w (words_of loan)) c d (turn v (words_of mid) Went)
+Begins gives told behavior input space w loan c v mid d exit false =
+    (f : _) (z : Turn) → TimedTwice gives told (λ now later. rest (given_of behavior input space (bucket_of mid)) now later v (words_of mid) exit) d f z →
+    TimedTwice gives told (λ now later. turn_tree (given_of behavior input space (bucket_of loan)) now later w (words_of loan)) c f z
+
+-- the same, whatever the clock answers and the input is
+abbrev pub BeginsStep : {S : Type 0} → (S → (q : Question) → Answer q → S → Type 0) → Behavior → Walk → Option BucketWords → S → Walk → Option BucketWords → S → Exit → Bool → Type 0
+BeginsStep gives behavior w loan c v mid d exit whole =
+    (told : Option ℕ) (input : List ℕ) (space : PassSpace) → w.first.space ≡ space → Begins gives told behavior input space w loan c v mid d exit whole

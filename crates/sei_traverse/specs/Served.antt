@@ -9,7 +9,7 @@ use Rattle.sei_traverse.specs.State.{TraversalState}
 use Rattle.sei_traverse.specs.Unstruck.{first_questions}
 
 -- the reply and the copy for the wire are the output of an honest run, which is by the noted time where one was noted, and
--- twice as many questions were asked as it asks, with the test behind Halt that closes its phase
+-- twice as many questions were asked as its own weigh, with the test behind Halt that closes its phase
 pub record HasReply (e : Errand) (t : TraversalState) (begin now : Counts) : Type 0 where
   pub time : ℕ
   pub made : ℕ

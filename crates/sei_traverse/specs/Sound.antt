@@ -8,12 +8,12 @@ use Rattle.sei_pass.specs.Spaces.{space_in}
 use Rattle.sei_traverse.specs.declared.walk.Walk.{Walk}
 use Rattle.sei_traverse.specs.Errand.{Errand, TellsTime, given_in}
 use Rattle.sei_traverse.specs.Phases.{reply_of}
-use Rattle.sei_traverse.specs.Service.{call_of}
+use Rattle.sei_traverse.specs.Given.{call_of}
 
 -- a sound handler serves the errand: the input is bytes, the errand's call is the sealed one and its space that of the call, where
 -- there is one, the clock tells numbers of 64 bits, where it tells them, and the words that were taken are some on which a run starts
 pub record IsServedBy {B : Type 0} (space : List ℕ → ℕ → Space) (Before Stands : List ℕ → B → Type 0) (answer : List ℕ → ℕ → B → ℕ → B × List ℕ) (e : Errand) : Type 0 where
-  pub handler : IsSoundHandler e.service.statements e.service.calls e.service.parsed e.service.rendered space e.space.geometry.buckets Before Stands answer
+  pub handler : IsSoundHandler e.behavior space e.space.geometry.buckets Before Stands answer
   pub bytes : All (λ b. b < 256) e.input
   pub call : (p : Parsed) → call_of (given_in e) e.sealed ≡ Some p → e.call ≡ p
   pub has : (nth : ℕ) → read_of e.sealed.nth ≡ Some nth → space e.input nth ≡ space_in e.space

@@ -26,7 +26,8 @@ use Rattle.sei_traverse.specs.declared.walk.Walk.{Walk}
 use Rattle.sei_traverse.specs.Acts.{Acted, at}
 use Rattle.sei_traverse.specs.PassActs.{first_tree, second_tree}
 use Rattle.sei_traverse.specs.Phases.{guard_tree, take_tree, restore_tree, compared, compare_tree, verify_tree, enter_tree, give_tree, send_tree, done_tree}
-use Rattle.sei_traverse.specs.Service.{Given, Service}
+use Rattle.sei_traverse.specs.Given.{Given}
+use Rattle.sei_stmt.specs.Handling.{Behavior}
 
 -- the act at a place, for a clock that answers this
 
@@ -51,7 +52,7 @@ act_tree g now w words = act_in g now w.place.phase w.place.index w words
 abbrev pub plain_below : ℕ → ℕ → Option Act
 plain_below steps index = if nat_lt index steps then Some Plain else None
 
-abbrev pub site_in : Service → Walk → Phase → ℕ → Option Act
+abbrev pub site_in : Behavior → Walk → Phase → ℕ → Option Act
 site_in s w Guard index = plain_below 1 index
 site_in s w Take index = plain_below 2 index
 site_in s w First index = option_map (act_of w.first.registers) (slice_get s.statements index)
@@ -64,7 +65,7 @@ site_in s w Give index = plain_below 1 index
 site_in s w Send index = plain_below 1 index
 site_in s w Done index = plain_below 1 index
 
-abbrev pub site_of : Service → Walk → Option Act
+abbrev pub site_of : Behavior → Walk → Option Act
 site_of s w = site_in s w w.place.phase w.place.index
 
 -- where a step goes whose act was left out: to the next index, or behind a phase's last step to the next phase;
@@ -163,7 +164,7 @@ turn_at g now later w words (Some act) = Ask (Often (record { place = w.place; a
 abbrev pub turn_tree : Given → ℕ → ℕ → Walk → List ℕ → Tree Turn
 turn_tree g now later w words =
     let v : Walk = record w { want = Nothing } in
-    turn_at g now later v words (site_of g.service v)
+    turn_at g now later v words (site_of g.behavior v)
 
 -- for one answer of the clock the work goes like this; and for two, where the clock is asked again
 pub record Timed {S R : Type 0} (gives : S → (q : Question) → Answer q → S → Type 0) (told : Option ℕ) (tree : ℕ → Tree R) (s t : S) (x : R) : Type 0 where

@@ -1,6 +1,6 @@
 -- Where a traversal stands that was struck once, and whose gate closed as many phases as stand before its own.
-use Rattle.std.specs.Prelude.{◌≡◌, ◌≢◌, ℕ, ◌+◌, ◌-◌, ◌^◌, ◌<◌, ◌≤◌, List, length, take, Option, Some, None, slice_get, ⊤}
-use Rattle.sei_code.specs.Coded.{sealed}
+use Rattle.std.specs.Prelude.{◌≡◌, ◌≢◌, ℕ, ◌+◌, ◌-◌, ◌^◌, ◌<◌, ◌≤◌, List, length, take, Option, Some, None, slice_get}
+use Rattle.sei_code.specs.Coded.{sealed, read_of}
 use Rattle.sei_code.specs.declared.coded.Coded.{Coded}
 use Rattle.sei_code.specs.Kept.{Kept, empty_kept}
 use Rattle.sei_fault.specs.declared.place.Phase.{Phase}
@@ -8,7 +8,7 @@ use Rattle.sei_fault.specs.declared.place.Phase.TheVariants.{Guard, Take, First,
 use Rattle.sei_log.specs.Changes.{undone, applied, Stands, SameOff}
 use Rattle.sei_log.specs.declared.log.Change.{Change}
 use Rattle.sei_log.specs.declared.notes.Notes.{Notes}
-use Rattle.sei_stmt.specs.Asked.{first_asked}
+use Rattle.sei_stmt.specs.Weights.{first_weighed}
 use Rattle.sei_stmt.specs.Honest.{after, HonestRun}
 use Rattle.sei_stmt.specs.Machine.{Machine, Setting, Outcome, with_log}
 use Rattle.sei_stmt.specs.Machine.Outcome.{Next, Halted}
@@ -17,11 +17,12 @@ use Rattle.sei_pass.specs.declared.given.Which.TheVariants.{Reading}
 use Rattle.sei_pass.specs.State.{new_pass}
 use Rattle.sei_pass.specs.Steps.{machine_of}
 use Rattle.sei_traverse.specs.declared.walk.Walk.{Walk}
+use Rattle.sei_traverse.specs.Alike.{AlikeAt, AlikeLogs}
 use Rattle.sei_traverse.specs.Comes.{renoted, Comes}
 use Rattle.sei_traverse.specs.Errand.{Errand, first_setting, first_start, Follows, Whole}
 use Rattle.sei_traverse.specs.PassActs.{asked_behind, pass_of, first_machine, second_machine}
 use Rattle.sei_traverse.specs.Phases.{reply_of}
-use Rattle.sei_traverse.specs.Service.{given_of, setting_in}
+use Rattle.sei_traverse.specs.Given.{given_of, setting_in}
 use Rattle.sei_traverse.specs.Trusted.{PassesGuard, second_setting}
 use Rattle.sei_traverse.specs.Unstruck.{FirstIsNew, SecondIsNew, FirstIsDone, first_questions}
 
@@ -29,24 +30,23 @@ use Rattle.sei_traverse.specs.Unstruck.{FirstIsNew, SecondIsNew, FirstIsDone, fi
 abbrev pub relogged : Kept Change → Machine → Machine
 relogged log m = with_log m log
 
--- where a time is noted, it is a number of 64 bits
-abbrev pub NotesSmall : Option Coded → Type 0
-NotesSmall None = ⊤
-NotesSmall (Some note) = note.value < 2 ^ 64
+-- what a note reads as, where it reads: a number of 64 bits, which is the told time, where one is told
+abbrev pub IsNoted : Errand → Option Coded → Type 0
+IsNoted e note = (c : Coded) (v : ℕ) → note ≡ Some c → read_of c ≡ Some v → (v < 2 ^ 64) × Follows e.clock v
 
 -- the input is fit, and the wanted bucket is the call's
 pub record IsAimed (e : Errand) (w : Walk) : Type 0 where
   pub fit : PassesGuard e
   pub wanted : w.wanted ≡ e.call.bucket
 
--- the questions of an honest run of so many statements, by a time and a slot, as a first pass: those of its statements,
+-- what the questions of an honest run of so many statements, by a time and a slot, weigh as a first pass: those of its statements,
 -- and the test behind Halt that closes its phase
 abbrev pub run_questions : Errand → ℕ → ℕ → ℕ → ℕ
-run_questions e time slot made = first_asked (second_setting e) (renoted (notes_of time slot) (first_start e)) made + 1
+run_questions e time slot made = first_weighed (second_setting e) (renoted (notes_of time slot) (first_start e)) made + 1
 
 -- what holds of each traversal that comes to Enter: the words and the reply are those that an honest run on the
--- words that were taken leaves, by the noted time and some slot, and at least as many questions were asked as it asks; the
--- time is a number of 64 bits
+-- words that were taken leaves, by the noted time and some slot, and at least as many questions were asked as its own weigh; the
+-- time is a number of 64 bits, and the told one, where one is told
 pub record IsHonestResult (e : Errand) (w : Walk) (words : List ℕ) (asked : ℕ) : Type 0 where
   pub aimed : IsAimed e w
   pub time : ℕ
@@ -55,6 +55,7 @@ pub record IsHonestResult (e : Errand) (w : Walk) (words : List ℕ) (asked : �
   pub made : ℕ
   pub noted : w.notes.now ≡ Some (sealed time)
   pub small : time < 2 ^ 64
+  pub told : Follows e.clock time
   pub run : HonestRun (second_setting e) (renoted (notes_of time slot) (first_start e)) end made
   pub words_are : words ≡ end.words
   pub reply : reply_of w ≡ end.bytes.items
@@ -78,9 +79,9 @@ pub record IsMisread (e : Errand) (w : Walk) (words : List ℕ) (asked : ℕ) : 
   pub off : SameOff w.first_log.items words e.taken
   pub questions : number ≤ asked
 
--- the log undoes all that it changed, and a noted time has 64 bits; or one old word in the log was misread
+-- the log undoes all that it changed, and a noted time is as it may be; or one old word in the log was misread
 pub data FirstStruck (e : Errand) (w : Walk) (words : List ℕ) (asked : ℕ) : Type 0 where
-  Restorable : NotesSmall w.notes.now → undone w.first_log.items words ≡ e.taken → FirstStruck e w words asked
+  Restorable : IsNoted e w.notes.now → undone w.first_log.items words ≡ e.taken → FirstStruck e w words asked
   Misread : IsMisread e w words asked → FirstStruck e w words asked
 
 -- before the bucket is lent, nothing was made
@@ -128,7 +129,7 @@ pending w = take (length w.first_log.items - w.place.index) w.first_log.items
 -- undoing what is pending gives the words that were taken, and a noted time has 64 bits; or the first log has a misread
 -- word; or a change that is not pending was not undone
 pub data RestoreStruck (e : Errand) (w : Walk) (words : List ℕ) (asked : ℕ) : Type 0 where
-  Restorable : NotesSmall w.notes.now → undone (pending w) words ≡ e.taken → RestoreStruck e w words asked
+  Restorable : IsNoted e w.notes.now → undone (pending w) words ≡ e.taken → RestoreStruck e w words asked
   Misread : (end : Machine) → WasMisread e w end asked → SameOff w.first_log.items words e.taken → RestoreStruck e w words asked
   Damaged : (end : Machine) → WasHonest e w end asked → (place : ℕ) (c : Change) → Stands w.first_log.items place c →
       length w.first_log.items - w.place.index ≤ place → slice_get words c.address ≢ Some c.was → RestoreStruck e w words asked
@@ -141,7 +142,7 @@ start_on e words notes = machine_of (new_pass e.space) words (empty_kept Change 
 
 -- the setting of a second pass for which this bucket is lent
 abbrev pub setting_on : Errand → ℕ → Setting
-setting_on e bucket = setting_in (given_of e.service e.input e.space (Some bucket)) Reading e.sealed 0
+setting_on e bucket = setting_in (given_of e.behavior e.input e.space (Some bucket)) Reading e.sealed 0
 
 -- an honest second pass on these words, by the walk's notes, has come to where the walk stands
 abbrev pub ComesOn : Errand → Walk → List ℕ → List ℕ → Outcome → ℕ → Type 0
@@ -151,8 +152,8 @@ ComesOn e w found words o n = after (setting_on e w.wanted) (start_on e found w.
 -- or it is honest on words that a misread log or a change which was not undone left; or it was struck itself, and the first
 -- one was honest
 pub data SecondStruck (e : Errand) (w : Walk) (words : List ℕ) (o : Outcome) (asked : ℕ) : Type 0 where
-  Good : NotesSmall w.notes.now → (n : ℕ) → ComesOn e w e.taken words o n →
-      first_asked (setting_on e w.wanted) (start_on e e.taken w.notes) n + asked_behind o ≤ asked → SecondStruck e w words o asked
+  Good : IsNoted e w.notes.now → (n : ℕ) → ComesOn e w e.taken words o n →
+      first_weighed (setting_on e w.wanted) (start_on e e.taken w.notes) n + asked_behind o ≤ asked → SecondStruck e w words o asked
   Misread : (end : Machine) → WasMisread e w end asked → (found : List ℕ) → SameOff w.first_log.items found e.taken → (n : ℕ) → ComesOn e w found words o n → SecondStruck e w words o asked
   Damaged : (end : Machine) → WasHonest e w end asked → (place : ℕ) (c : Change) → Stands w.first_log.items place c →
       (found : List ℕ) → slice_get found c.address ≢ Some c.was → (n : ℕ) → ComesOn e w found words o n → SecondStruck e w words o asked
@@ -164,16 +165,16 @@ pub data SecondStruck (e : Errand) (w : Walk) (words : List ℕ) (o : Outcome) (
 pub data CompareStruck (e : Errand) (w : Walk) (words : List ℕ) (asked : ℕ) : Type 0 where
   Fine : IsHonestResult e w words asked → CompareStruck e w words asked
   Doubt : SecondStruck e w words Halted asked →
-      ((place : ℕ) → place < w.place.index → slice_get w.first_log.items place ≡ slice_get w.second_log.items place) → CompareStruck e w words asked
+      ((place : ℕ) → place < w.place.index → AlikeAt (slice_get w.first_log.items place) (slice_get w.second_log.items place)) → CompareStruck e w words asked
 
 -- the reading back
 
--- the second pass was struck, and came to the log of the first; so many words hold what its log says
+-- the second pass was struck, and came to a log that says the same as the first one; so many words hold what it says
 pub record IsDoubted (e : Errand) (w : Walk) (words : List ℕ) (asked : ℕ) : Type 0 where
   pub end : Machine
   pub was : WasHonest e w end asked
   pub off : SameOff w.second_log.items words e.taken
-  pub logs : w.first_log.items ≡ w.second_log.items
+  pub logs : AlikeLogs w.first_log.items w.second_log.items
   pub read : (place : ℕ) (c : Change) → place < w.place.index → Stands w.second_log.items place c → slice_get words c.address ≡ Some c.becomes
 
 pub data WordsStruck (e : Errand) (w : Walk) (words : List ℕ) (asked : ℕ) : Type 0 where

@@ -3,7 +3,7 @@ use Rattle.std.specs.Prelude.{◌≡◌, ℕ, ◌<◌, true, Some, slice_get}
 use Rattle.sei_code.specs.Coded.{sealed}
 use Rattle.sei_log.specs.declared.notes.Notes.{Notes}
 use Rattle.sei_stmt.specs.declared.stmt.Stmt.TheVariants.{Parse}
-use Rattle.sei_stmt.specs.Asked.{first_asked}
+use Rattle.sei_stmt.specs.Weights.{first_weighed}
 use Rattle.sei_stmt.specs.Handling.{Parsed}
 use Rattle.sei_stmt.specs.Honest.{HonestRun}
 use Rattle.sei_stmt.specs.Machine.{Machine, Setting}
@@ -11,7 +11,7 @@ use Rattle.sei_stmt.specs.Passes.{notes_of}
 use Rattle.sei_pass.specs.Setting.{is_intact}
 use Rattle.sei_traverse.specs.Comes.{again, renoted, EndsAlways}
 use Rattle.sei_traverse.specs.Errand.{Errand, given_in, first_setting, first_start, TellsTime}
-use Rattle.sei_traverse.specs.Service.{has_sealed_call, call_of}
+use Rattle.sei_traverse.specs.Given.{has_sealed_call, call_of}
 
 -- the input is the sealed one, and has the sealed call, which is the errand's
 pub record PassesGuard (e : Errand) : Type 0 where
@@ -29,12 +29,12 @@ pub record ReadsNotes (e : Errand) (notes : Notes) (end : Machine) (made : ℕ) 
   pub slot : ℕ
   pub noted : notes.now ≡ Some (sealed time)
   pub run : HonestRun (second_setting e) (renoted (notes_of time slot) (first_start e)) (renoted (notes_of time slot) end) made
-  pub asked : first_asked (second_setting e) (renoted notes (first_start e)) made ≡ first_asked (second_setting e) (renoted (notes_of time slot) (first_start e)) made
+  pub asked : first_weighed (second_setting e) (renoted notes (first_start e)) made ≡ first_weighed (second_setting e) (renoted (notes_of time slot) (first_start e)) made
 
 -- what is trusted of the handler, of the clock, and of the words that were taken
 pub record IsTrusted (e : Errand) : Type 0 where
   -- the table parses first
-  pub parses : slice_get e.service.statements 0 ≡ Some Parse
+  pub parses : slice_get e.behavior.statements 0 ≡ Some Parse
   -- the sealed call, where the input has it, is the errand's
   pub has_called : has_sealed_call (given_in e) e.sealed ≡ true → call_of (given_in e) e.sealed ≡ Some e.call
   -- the calls of an input are those that are below their number

@@ -6,7 +6,8 @@ use Rattle.sei_fault.specs.declared.place.Phase.TheVariants.{Guard, Take, First,
 use Rattle.sei_fault.specs.Phases.{phase_number}
 use Rattle.sei_log.specs.declared.log.Change.{Change}
 use Rattle.sei_restore.specs.Undoing.{restored}
-use Rattle.sei_stmt.specs.Honest.{after, asked_after}
+use Rattle.sei_stmt.specs.Honest.{after}
+use Rattle.sei_stmt.specs.Weights.{weighed_after}
 use Rattle.sei_stmt.specs.Machine.{Machine}
 use Rattle.sei_stmt.specs.Machine.Outcome.{Next}
 use Rattle.sei_pass.specs.State.{new_pass}
@@ -109,10 +110,10 @@ pub record InFirst (e : Errand) (w : Walk) (lent : Option (List ℕ)) (steps ask
   pub second : SecondIsNew e w
   pub at : FirstAt e w lent steps asked
 
--- the questions of a whole first pass of so many statements at a time: those of its statements, and the test behind Halt
+-- what the questions of a whole first pass of so many statements at a time weigh: those of its statements, and the test behind Halt
 -- that closes its phase
 abbrev pub first_questions : Errand → ℕ → ℕ → ℕ
-first_questions e time n = asked_after (at_time (first_setting e) time) (first_start e) n + 1
+first_questions e time n = weighed_after (at_time (first_setting e) time) (first_start e) n + 1
 
 -- as many of its changes are undone as the index says
 pub record InRestore (e : Errand) (w : Walk) (lent : Option (List ℕ)) (steps asked : ℕ) : Type 0 where
@@ -126,7 +127,7 @@ pub record InRestore (e : Errand) (w : Walk) (lent : Option (List ℕ)) (steps a
   pub index : w.place.index ≤ length end.log.items
   pub words : lent ≡ Some (restored end.log.items end.words w.place.index)
   pub number : steps ≤ before_restore made + w.place.index
-  pub questions : asked ≡ first_questions e time made
+  pub questions : first_questions e time made ≤ asked
 
 -- an honest second pass, by the notes of the first, has come here behind n statements
 pub record InSecond (e : Errand) (w : Walk) (lent : Option (List ℕ)) (steps asked : ℕ) : Type 0 where
@@ -143,7 +144,7 @@ pub record InSecond (e : Errand) (w : Walk) (lent : Option (List ℕ)) (steps as
   pub within : n ≤ made
   pub comes : after (again (first_setting e)) (renoted end.notes (first_start e)) n ≡ record { machine = second_machine w words; outcome = Next w.place.index }
   pub number : steps ≤ before_second made (length end.log.items) + n
-  pub questions : asked ≡ first_questions e time made + asked_after (again (first_setting e)) (renoted end.notes (first_start e)) n
+  pub questions : first_questions e time made + weighed_after (again (first_setting e)) (renoted end.notes (first_start e)) n ≤ asked
 
 -- both passes have come to the same end, and so have the words
 pub record InBoth (e : Errand) (w : Walk) (lent : Option (List ℕ)) (time made : ℕ) (end : Machine) (asked : ℕ) : Type 0 where

@@ -4,7 +4,7 @@ ghost use Rattle.sei_stmt.specs.Handling.{parsed_words};
 ghost use Rattle.sei_words.specs.Loan.{words_of, bucket_of, place_of, IsOf};
 ghost use Rattle.sei_pass.specs.Setting.{sealed_call};
 ghost use Rattle.sei_traverse.specs.Acts.{acted};
-ghost use Rattle.sei_traverse.specs.Service.{service_of, given_of};
+ghost use Rattle.sei_traverse.specs.Given.{given_of};
 ghost use Rattle.sei_traverse.specs.Step.{act_tree, Timed};
 ghost use Rattle.sei_traverse.specs.Walks.{IsWalk, Stays};
 
@@ -29,11 +29,11 @@ impl Walk {
     ) -> Ending
         requires walk { IsWalk self.old }
         requires space { self.old.first.space ≡ space.now }
-        requires room { length (parsed_words (sealed_call (H.parsed hands.now input.now) self.old.sealed.nth)) ≤ space.now.input }
+        requires room { length (parsed_words (sealed_call ((H.behavior hands.now).parsed input.now) self.old.sealed.nth)) ≤ space.now.input }
         requires index { self.old.place.index + 1 < 2 ^ 64 }
         requires lent { IsOf space.now.geometry (L.loan lent.old) }
         ensures act { Timed K.gives (C.told clock.now)
-            (λ now. act_tree (given_of (service_of (H.statements hands.now) (H.call_count hands.now) (H.parsed hands.now) (H.rendered hands.now)) input.now space.now (bucket_of (L.loan lent.old)))
+            (λ now. act_tree (given_of (H.behavior hands.now) input.now space.now (bucket_of (L.loan lent.old)))
             now self.old (words_of (L.loan lent.old)))
             core.old core.new (acted self.new (words_of (L.loan lent.new)) result) }
         ensures lent { place_of (L.loan lent.new) ≡ place_of (L.loan lent.old) }

@@ -11,8 +11,8 @@ ghost use Rattle.sei_traverse.specs.Facts.{Facts, LendsWanted, Isolates};
 ghost use Rattle.sei_traverse.specs.Noting.{NotesTime};
 ghost use Rattle.sei_traverse.specs.OnWay.{lent_words, Lends, TellsAs, OnWay, StaysOnWay, AtEnd};
 ghost use Rattle.sei_traverse.specs.Phases.{reply_of};
-ghost use Rattle.sei_traverse.specs.Running.{On, RunsOn};
-ghost use Rattle.sei_traverse.specs.Service.{Service};
+ghost use Rattle.sei_traverse.specs.Running.{On, StepsTo, Makes, RunsOn};
+ghost use Rattle.sei_stmt.specs.Handling.{Behavior};
 ghost use Rattle.sei_traverse.specs.Served.{IsServed, HasReply};
 ghost use Rattle.sei_traverse.specs.Sound.{IsServedBy, IsModelAnswer};
 ghost use Rattle.sei_traverse.specs.State.{TraversalState, IsTraversal, begun_traversal};
@@ -48,8 +48,8 @@ pub fn traversals_end()
 /// What is known of a traversal that one strike at most has struck is known where it begins, for every
 /// handler, input and list of words. It stays known where the words that were taken are lent when they
 /// are wanted, and where they are lent no more once the bucket is given back: the gate has closed two
-/// phases then, and nine. Where no strike fell, it is on its way. That it stays known behind each step
-/// is the clause `isolated` of `Traversal::step`.
+/// phases then, and nine. Where no strike fell, it is on its way. That it stays known after each step is
+/// the law `one_strike_is_isolated`, and the clause `isolated` of `Traversal::step`.
 pub fn faults_are_isolated()
     ensures begins { (e : Errand) (c : Counts) → Facts e (begun_traversal e.space e.sealed) None c c }
     ensures lends { (e : Errand) (t : TraversalState) (begin now : Counts) → IsTrusted e → t.walk.gate.done ≡ 2 →
@@ -57,6 +57,22 @@ pub fn faults_are_isolated()
     ensures gives { (e : Errand) (t : TraversalState) (words : List ℕ) (begin now : Counts) → t.walk.gate.done ≡ 9 →
         Facts e t (Some words) begin now → Facts e t None begin now }
     ensures on_way { (e : Errand) (t : TraversalState) (lent : Option (List ℕ)) (begin now : Counts) → Facts e t lent begin now → OnWay e t lent begin now }
+{}
+
+/// One strike is isolated, over the definition of a step alone, for every core that keeps its law, every
+/// handler that may be trusted on the input, and every clock. What is known of a traversal that at most
+/// one strike has struck is known after each of its steps; what it wants is so, and is wanted but once;
+/// it aborts only if a strike fell, and is refused only before `Take` is closed. With one strike at most
+/// the number of steps stays bounded; and without one the traversal stays on its way.
+pub fn one_strike_is_isolated<K: Core>()
+    ensures isolated { (told : Option ℕ) (behavior : Behavior) (input : List ℕ) (x y : On K) (state : State) → StepsTo K.gives told behavior input x y state → (e : Errand) (begin : Counts) →
+        IsTrusted e → TellsAs e.clock told → e.behavior ≡ behavior → e.input ≡ input → LendsWanted x.traversal.walk x.lent → Facts e x.traversal (lent_words x.lent) begin (K.counts x.core) →
+        (K.counts y.core).struck ≤ begin.struck + 1 → Isolates e x.traversal y.traversal x.lent y.lent begin (K.counts y.core) y.traversal.walk.want state }
+    ensures within { (told : Option ℕ) (behavior : Behavior) (input : List ℕ) (x y : On K) (state : State) → StepsTo K.gives told behavior input x y state → (begin : Counts) →
+        IsTraversal x.traversal → StepsWithin x.traversal begin (K.counts x.core) → StepsAfter y.traversal begin (K.counts y.core) state }
+    ensures on_way { (told : Option ℕ) (behavior : Behavior) (input : List ℕ) (x y : On K) (state : State) → StepsTo K.gives told behavior input x y state → (e : Errand) (begin : Counts) →
+        IsErrand e → TellsAs e.clock told → e.behavior ≡ behavior → e.input ≡ input → Lends e x.traversal.walk.place.phase x.lent → OnWay e x.traversal (lent_words x.lent) begin (K.counts x.core) →
+        StaysOnWay e x.traversal y.traversal (lent_words y.lent) begin (K.counts y.core) y.traversal.walk.want state }
 {}
 
 /// Over all steps of a traversal that are isolated, `Take`, `Enter`, `Give` and `Send` are wanted in this
@@ -74,16 +90,25 @@ pub fn wants_come_once()
 /// lent. Its steps are counted; it notes no other time than the clock's; and no question is taken back
 /// over it, nor a strike, nor fall more strikes than there is room for.
 pub fn runs_keep_what_steps_keep<K: Core>()
-    ensures sealed { (told : Option ℕ) (service : Service) (input : List ℕ) (n : ℕ) (x z : On K) (t : Turned) → RunsOn K.gives K.counts told service input n x z t → z.traversal.walk.sealed ≡ x.traversal.walk.sealed }
-    ensures space { (told : Option ℕ) (service : Service) (input : List ℕ) (n : ℕ) (x z : On K) (t : Turned) → RunsOn K.gives K.counts told service input n x z t → z.traversal.space ≡ x.traversal.space }
-    ensures lent { (told : Option ℕ) (service : Service) (input : List ℕ) (n : ℕ) (x z : On K) (t : Turned) → RunsOn K.gives K.counts told service input n x z t → place_of z.lent ≡ place_of x.lent }
-    ensures steps { (told : Option ℕ) (service : Service) (input : List ℕ) (n : ℕ) (x z : On K) (t : Turned) → RunsOn K.gives K.counts told service input n x z t →
+    ensures sealed { (told : Option ℕ) (behavior : Behavior) (input : List ℕ) (n : ℕ) (x z : On K) (t : Turned) → RunsOn K.gives K.counts told behavior input n x z t → z.traversal.walk.sealed ≡ x.traversal.walk.sealed }
+    ensures space { (told : Option ℕ) (behavior : Behavior) (input : List ℕ) (n : ℕ) (x z : On K) (t : Turned) → RunsOn K.gives K.counts told behavior input n x z t → z.traversal.space ≡ x.traversal.space }
+    ensures lent { (told : Option ℕ) (behavior : Behavior) (input : List ℕ) (n : ℕ) (x z : On K) (t : Turned) → RunsOn K.gives K.counts told behavior input n x z t → place_of z.lent ≡ place_of x.lent }
+    ensures steps { (told : Option ℕ) (behavior : Behavior) (input : List ℕ) (n : ℕ) (x z : On K) (t : Turned) → RunsOn K.gives K.counts told behavior input n x z t →
         x.traversal.steps ≤ 2 ^ 64 - 1 → z.traversal.steps ≡ min (x.traversal.steps + suc n) (2 ^ 64 - 1) }
-    ensures noted { (told : Option ℕ) (service : Service) (input : List ℕ) (n : ℕ) (x z : On K) (t : Turned) → RunsOn K.gives K.counts told service input n x z t → NotesTime told x.traversal.walk.notes.now z.traversal.walk.notes.now }
-    ensures asked { (told : Option ℕ) (service : Service) (input : List ℕ) (n : ℕ) (x z : On K) (t : Turned) → RunsOn K.gives K.counts told service input n x z t → min (K.counts x.core).asked (2 ^ 128 - 1) ≤ (K.counts z.core).asked }
-    ensures struck { (told : Option ℕ) (service : Service) (input : List ℕ) (n : ℕ) (x z : On K) (t : Turned) → RunsOn K.gives K.counts told service input n x z t → (K.counts x.core).struck ≤ (K.counts z.core).struck }
-    ensures room { (told : Option ℕ) (service : Service) (input : List ℕ) (n : ℕ) (x z : On K) (t : Turned) → RunsOn K.gives K.counts told service input n x z t →
+    ensures noted { (told : Option ℕ) (behavior : Behavior) (input : List ℕ) (n : ℕ) (x z : On K) (t : Turned) → RunsOn K.gives K.counts told behavior input n x z t → NotesTime told x.traversal.walk.notes.now z.traversal.walk.notes.now }
+    ensures asked { (told : Option ℕ) (behavior : Behavior) (input : List ℕ) (n : ℕ) (x z : On K) (t : Turned) → RunsOn K.gives K.counts told behavior input n x z t → min (K.counts x.core).asked (2 ^ 128 - 1) ≤ (K.counts z.core).asked }
+    ensures struck { (told : Option ℕ) (behavior : Behavior) (input : List ℕ) (n : ℕ) (x z : On K) (t : Turned) → RunsOn K.gives K.counts told behavior input n x z t → (K.counts x.core).struck ≤ (K.counts z.core).struck }
+    ensures room { (told : Option ℕ) (behavior : Behavior) (input : List ℕ) (n : ℕ) (x z : On K) (t : Turned) → RunsOn K.gives K.counts told behavior input n x z t →
         (r : ℕ) → (K.counts x.core).room ≡ Some r → (s : ℕ) × ((K.counts z.core).room ≡ Some s) × ((K.counts z.core).struck + s ≡ (K.counts x.core).struck + r) }
+{}
+
+/// What a step notes of the time is the clock's answer, and so is what a run of many steps notes,
+/// unless a strike fell in it.
+pub fn clocks_are_noted<K: Core>()
+    ensures step { (told : Option ℕ) (behavior : Behavior) (input : List ℕ) (x y : On K) (t : Turned) → Makes K.gives K.counts told behavior input x y t → (K.counts y.core).struck ≡ (K.counts x.core).struck →
+        NotesTime told x.traversal.walk.notes.now y.traversal.walk.notes.now }
+    ensures run { (told : Option ℕ) (behavior : Behavior) (input : List ℕ) (n : ℕ) (x z : On K) (t : Turned) → RunsOn K.gives K.counts told behavior input n x z t → (K.counts z.core).struck ≡ (K.counts x.core).struck →
+        NotesTime told x.traversal.walk.notes.now z.traversal.walk.notes.now }
 {}
 
 /// A run of many steps goes as its steps do. With one strike at most its steps are bounded. From a
@@ -91,16 +116,16 @@ pub fn runs_keep_what_steps_keep<K: Core>()
 /// struck, its last step is isolated. All its steps are steps of the traversal, of which only the last
 /// may want anything.
 pub fn runs_go_as_steps_go<K: Core>()
-    ensures within { (told : Option ℕ) (service : Service) (input : List ℕ) (n : ℕ) (x z : On K) (t : Turned) → RunsOn K.gives K.counts told service input n x z t →
+    ensures within { (told : Option ℕ) (behavior : Behavior) (input : List ℕ) (n : ℕ) (x z : On K) (t : Turned) → RunsOn K.gives K.counts told behavior input n x z t →
         (begin : Counts) → IsTraversal x.traversal → StepsWithin x.traversal begin (K.counts x.core) → StepsAfter z.traversal begin (K.counts z.core) t.state }
-    ensures on_way { (told : Option ℕ) (service : Service) (input : List ℕ) (n : ℕ) (x z : On K) (t : Turned) (r : RunsOn K.gives K.counts told service input n x z t) (e : Errand) (begin : Counts) →
-        IsErrand e → TellsAs e.clock told → e.service ≡ service → e.input ≡ input → Lends e x.traversal.walk.place.phase x.lent → OnWay e x.traversal (lent_words x.lent) begin (K.counts x.core) →
+    ensures on_way { (told : Option ℕ) (behavior : Behavior) (input : List ℕ) (n : ℕ) (x z : On K) (t : Turned) (r : RunsOn K.gives K.counts told behavior input n x z t) (e : Errand) (begin : Counts) →
+        IsErrand e → TellsAs e.clock told → e.behavior ≡ behavior → e.input ≡ input → Lends e x.traversal.walk.place.phase x.lent → OnWay e x.traversal (lent_words x.lent) begin (K.counts x.core) →
         StaysOnWay e r.last.traversal z.traversal (lent_words z.lent) begin (K.counts z.core) t.want t.state }
-    ensures isolated { (told : Option ℕ) (service : Service) (input : List ℕ) (n : ℕ) (x z : On K) (t : Turned) (r : RunsOn K.gives K.counts told service input n x z t) (e : Errand) (begin : Counts) →
-        IsTrusted e → TellsAs e.clock told → e.service ≡ service → e.input ≡ input → LendsWanted x.traversal.walk x.lent → Facts e x.traversal (lent_words x.lent) begin (K.counts x.core) →
+    ensures isolated { (told : Option ℕ) (behavior : Behavior) (input : List ℕ) (n : ℕ) (x z : On K) (t : Turned) (r : RunsOn K.gives K.counts told behavior input n x z t) (e : Errand) (begin : Counts) →
+        IsTrusted e → TellsAs e.clock told → e.behavior ≡ behavior → e.input ≡ input → LendsWanted x.traversal.walk x.lent → Facts e x.traversal (lent_words x.lent) begin (K.counts x.core) →
         (K.counts z.core).struck ≤ begin.struck + 1 → Isolates e r.last.traversal z.traversal r.last.lent z.lent begin (K.counts z.core) t.want t.state }
-    ensures wanted { (told : Option ℕ) (service : Service) (input : List ℕ) (n : ℕ) (x z : On K) (t : Turned) (r : RunsOn K.gives K.counts told service input n x z t) (e : Errand) (begin : Counts) →
-        IsTrusted e → TellsAs e.clock told → e.service ≡ service → e.input ≡ input → LendsWanted x.traversal.walk x.lent → Facts e x.traversal (lent_words x.lent) begin (K.counts x.core) →
+    ensures wanted { (told : Option ℕ) (behavior : Behavior) (input : List ℕ) (n : ℕ) (x z : On K) (t : Turned) (r : RunsOn K.gives K.counts told behavior input n x z t) (e : Errand) (begin : Counts) →
+        IsTrusted e → TellsAs e.clock told → e.behavior ≡ behavior → e.input ≡ input → LendsWanted x.traversal.walk x.lent → Facts e x.traversal (lent_words x.lent) begin (K.counts x.core) →
         (K.counts z.core).struck ≤ begin.struck + 1 → (wants : List Want) → Steps e begin wants x.traversal State.Went →
         Steps e begin ((wants ++ replicate n Want.Nothing) ++ t.want ∷ []) z.traversal t.state }
 {}

@@ -8,7 +8,7 @@ ghost use Rattle.sei_pass.specs.Setting.{sealed_call};
 ghost use Rattle.sei_traverse.specs.Walks.{Stays};
 ghost use Rattle.sei_traverse.specs.Acts.{acted, closing_then};
 ghost use Rattle.sei_traverse.specs.Phases.{guard_call, guard_tree, store_wanted, take_tree, take_wanted};
-ghost use Rattle.sei_traverse.specs.Service.{service_of, given_of, has_call, bucket_or_zero};
+ghost use Rattle.sei_traverse.specs.Given.{given_of, has_call, bucket_or_zero};
 
 use crate::turned::Want;
 use crate::walk::{Ending, Walk};
@@ -20,7 +20,7 @@ use sei_stmt::Handler;
 
 /// Whether the input is one whole request that has this call.
 fn has_call<H: Handler>(hands: &H, input: &[u8], nth: Coded) -> bool
-    ensures { result ≡ has_call (H.call_count hands.now input.now) (read_of nth) }
+    ensures { result ≡ has_call ((H.behavior hands.now).calls input.now) (read_of nth) }
 {
     match hands.calls(input) {
         None => false,
@@ -33,7 +33,7 @@ fn has_call<H: Handler>(hands: &H, input: &[u8], nth: Coded) -> bool
 
 /// The bucket of this call, or 0 where the input has no such call.
 fn bucket_of_call<H: Handler>(hands: &H, input: &[u8], nth: Coded) -> u64
-    ensures { result ≡ bucket_or_zero (parsed_bucket (sealed_call (H.parsed hands.now input.now) nth)) }
+    ensures { result ≡ bucket_or_zero (parsed_bucket (sealed_call ((H.behavior hands.now).parsed input.now) nth)) }
 {
     match nth.read() {
         None => 0,
@@ -48,7 +48,7 @@ impl Walk {
     /// Guard.
     pub fn guard<H: Handler, K: Core>(&mut self, hands: &H, input: &[u8], core: &mut K) -> Ending
         ensures act { (space : PassSpace) (lent : Option ℕ) (words : List ℕ) →
-            Runs K.gives (guard_tree (given_of (service_of (H.statements hands.now) (H.call_count hands.now) (H.parsed hands.now) (H.rendered hands.now)) input.now space lent) self.old words)
+            Runs K.gives (guard_tree (given_of (H.behavior hands.now) input.now space lent) self.old words)
             core.old core.new (acted self.new words result) }
         ensures stays { Stays self.old self.new }
         ensures place { self.new.place ≡ self.old.place }
@@ -63,7 +63,7 @@ impl Walk {
     /// Guard, behind the test of the input's code.
     fn guard_call<H: Handler, K: Core>(&mut self, hands: &H, input: &[u8], core: &mut K) -> Ending
         ensures act { (space : PassSpace) (lent : Option ℕ) (words : List ℕ) →
-            Runs K.gives (guard_call (given_of (service_of (H.statements hands.now) (H.call_count hands.now) (H.parsed hands.now) (H.rendered hands.now)) input.now space lent) self.old words)
+            Runs K.gives (guard_call (given_of (H.behavior hands.now) input.now space lent) self.old words)
             core.old core.new (acted self.new words result) }
         ensures stays { Stays self.old self.new }
         ensures place { self.new.place ≡ self.old.place }
@@ -86,7 +86,7 @@ impl Walk {
     /// Take 0.
     fn want_bucket<H: Handler, K: Core>(&mut self, hands: &H, input: &[u8], core: &mut K) -> Ending
         ensures act { (space : PassSpace) (lent : Option ℕ) (words : List ℕ) →
-            Runs K.gives (store_wanted (given_of (service_of (H.statements hands.now) (H.call_count hands.now) (H.parsed hands.now) (H.rendered hands.now)) input.now space lent) self.old words)
+            Runs K.gives (store_wanted (given_of (H.behavior hands.now) input.now space lent) self.old words)
             core.old core.new (acted self.new words result) }
         ensures stays { Stays self.old self.new }
         ensures place { self.new.place ≡ self.old.place }
@@ -136,7 +136,7 @@ impl Walk {
         core: &mut K,
     ) -> Ending
         ensures act { (lent : Option ℕ) (words : List ℕ) →
-            Runs K.gives (take_tree (given_of (service_of (H.statements hands.now) (H.call_count hands.now) (H.parsed hands.now) (H.rendered hands.now)) input.now space.now lent) self.old.place.index self.old words)
+            Runs K.gives (take_tree (given_of (H.behavior hands.now) input.now space.now lent) self.old.place.index self.old words)
             core.old core.new (acted self.new words result) }
         ensures stays { Stays self.old self.new }
         ensures place { self.new.place ≡ self.old.place }

@@ -6,7 +6,7 @@ ghost use Rattle.sei_pass.specs.Setting.{sealed_call};
 ghost use Rattle.sei_traverse.specs.Walks.{Stays};
 ghost use Rattle.sei_traverse.specs.Acts.{acted};
 ghost use Rattle.sei_traverse.specs.PassActs.{first_tree, second_tree};
-ghost use Rattle.sei_traverse.specs.Service.{service_of, given_of};
+ghost use Rattle.sei_traverse.specs.Given.{given_of};
 ghost use Rattle.sei_traverse.specs.Step.{Timed};
 
 use crate::turned::Want;
@@ -27,10 +27,10 @@ impl Walk {
         core: &mut K,
         clock: &C,
     ) -> Ending
-        requires room { length (parsed_words (sealed_call (H.parsed hands.now input.now) self.old.sealed.nth)) ≤ self.old.first.input.room }
+        requires room { length (parsed_words (sealed_call ((H.behavior hands.now).parsed input.now) self.old.sealed.nth)) ≤ self.old.first.input.room }
         requires lent { IsOf self.old.first.space.geometry (L.loan lent.old) }
         ensures act { Timed K.gives (C.told clock.now)
-            (λ now. first_tree (given_of (service_of (H.statements hands.now) (H.call_count hands.now) (H.parsed hands.now) (H.rendered hands.now)) input.now self.old.first.space (bucket_of (L.loan lent.old)))
+            (λ now. first_tree (given_of (H.behavior hands.now) input.now self.old.first.space (bucket_of (L.loan lent.old)))
             now self.old.place.index self.old (words_of (L.loan lent.old)))
             core.old core.new (acted self.new (words_of (L.loan lent.new)) result) }
         ensures lent { place_of (L.loan lent.new) ≡ place_of (L.loan lent.old) }
@@ -76,10 +76,10 @@ impl Walk {
         core: &mut K,
         clock: &C,
     ) -> Ending
-        requires room { length (parsed_words (sealed_call (H.parsed hands.now input.now) self.old.sealed.nth)) ≤ self.old.second.input.room }
+        requires room { length (parsed_words (sealed_call ((H.behavior hands.now).parsed input.now) self.old.sealed.nth)) ≤ self.old.second.input.room }
         requires lent { IsOf self.old.second.space.geometry (L.loan lent.old) }
         ensures act { Timed K.gives (C.told clock.now)
-            (λ now. second_tree (given_of (service_of (H.statements hands.now) (H.call_count hands.now) (H.parsed hands.now) (H.rendered hands.now)) input.now self.old.second.space (bucket_of (L.loan lent.old)))
+            (λ now. second_tree (given_of (H.behavior hands.now) input.now self.old.second.space (bucket_of (L.loan lent.old)))
             now self.old.place.index self.old (words_of (L.loan lent.old)))
             core.old core.new (acted self.new (words_of (L.loan lent.new)) result) }
         ensures lent { place_of (L.loan lent.new) ≡ place_of (L.loan lent.old) }

@@ -1,13 +1,13 @@
-//! Many steps of a traversal at once.
-ghost use Rattle.std.specs.Prelude.{◌≡◌, ℕ, ◌+◌, ◌<◌, ◌≤◌, ◌^◌, List, length};
+//! One step of a traversal, and many at once. Those of the passes are made as the loop over a pass makes them.
+ghost use Rattle.std.specs.Prelude.{◌≡◌, ℕ, ◌+◌, ◌<◌, ◌≤◌, ◌^◌, List, length, true, false};
 ghost use Rattle.sei_fault.specs.Tree.{Runs, bound};
 ghost use Rattle.sei_stmt.specs.Handling.{parsed_words};
 ghost use Rattle.sei_words.specs.Loan.{words_of, bucket_of, place_of, IsOf};
 ghost use Rattle.sei_pass.specs.Loop.{HasIndexAfter};
 ghost use Rattle.sei_pass.specs.Setting.{sealed_call};
 ghost use Rattle.sei_traverse.specs.Acts.{at, closes};
-ghost use Rattle.sei_traverse.specs.Running.{on, rest, RunsOn, begun_at, left_at};
-ghost use Rattle.sei_traverse.specs.Service.{service_of, given_of};
+ghost use Rattle.sei_traverse.specs.Running.{on, rest, BeginsStep, RunsOn, begun_at, left_at};
+ghost use Rattle.sei_traverse.specs.Given.{given_of};
 ghost use Rattle.sei_traverse.specs.Step.{next_phase, goes_on, turn, TimedTwice};
 ghost use Rattle.sei_traverse.specs.Walks.{IsWalk, Stays};
 
@@ -16,7 +16,7 @@ use crate::turned::{Abort, Many, State, Turned, Want};
 use crate::walk::Walk;
 use sei_fault::{Core, Phase, Place, Times};
 use sei_outside::Clock;
-use sei_pass::{Exit, PassSpace, Slots};
+use sei_pass::{Exit, FirstStep, PassSpace, SecondStep, Slots};
 use sei_stmt::Handler;
 
 impl Walk {
@@ -37,7 +37,7 @@ impl Walk {
     /// Does what is left to do of a step of a pass that the loop over its steps left so.
     #[cold]
     #[inline(never)]
-    fn rest<H: Handler, L: Slots, K: Core, C: Clock>(
+    pub fn rest<H: Handler, L: Slots, K: Core, C: Clock>(
         &mut self,
         exit: Exit,
         hands: &H,
@@ -49,11 +49,11 @@ impl Walk {
     ) -> State
         requires walk { IsWalk self.old }
         requires space { self.old.first.space ≡ space.now }
-        requires room { length (parsed_words (sealed_call (H.parsed hands.now input.now) self.old.sealed.nth)) ≤ space.now.input }
+        requires room { length (parsed_words (sealed_call ((H.behavior hands.now).parsed input.now) self.old.sealed.nth)) ≤ space.now.input }
         requires index { HasIndexAfter exit self.old.place.index }
         requires lent { IsOf space.now.geometry (L.loan lent.old) }
         ensures rest { TimedTwice K.gives (C.told clock.now)
-            (λ now later. rest (given_of (service_of (H.statements hands.now) (H.call_count hands.now) (H.parsed hands.now) (H.rendered hands.now)) input.now space.now (bucket_of (L.loan lent.old))) now later self.old (words_of (L.loan lent.old)) exit)
+            (λ now later. rest (given_of (H.behavior hands.now) input.now space.now (bucket_of (L.loan lent.old))) now later self.old (words_of (L.loan lent.old)) exit)
             core.old core.new (turn self.new (words_of (L.loan lent.new)) result) }
         ensures lent { place_of (L.loan lent.new) ≡ place_of (L.loan lent.old) }
         ensures stays { Stays self.old self.new }
@@ -77,7 +77,119 @@ impl Walk {
                 }
                 Times::Twice => self.twice(hands, input, space, lent, core, clock),
             },
-            Exit::Alone => self.step(hands, input, space, lent, core, clock),
+            Exit::Alone => self.step_alone(hands, input, space, lent, core, clock),
+        }
+    }
+
+    /// Makes a step of the first pass, as far as the loop over a pass makes it.
+    #[inline(always)]
+    fn lead_first<H: Handler, L: Slots, K: Core>(
+        &mut self,
+        hands: &H,
+        lent: &mut L,
+        core: &mut K,
+        exit: &mut Exit,
+    ) -> bool
+        requires walk { IsWalk self.old }
+        requires first { self.old.place.phase ≡ Phase.First }
+        ensures begins { BeginsStep K.gives (H.behavior hands.now)
+            self.old (L.loan lent.old) core.old self.new (L.loan lent.new) core.new exit.new result }
+        ensures after { result ≡ false → HasIndexAfter exit.new self.new.place.index }
+        ensures want { result ≡ true → self.new.want ≡ Want.Nothing }
+        ensures lent { place_of (L.loan lent.new) ≡ place_of (L.loan lent.old) }
+        ensures stays { Stays self.old self.new }
+    {
+        self.want = Want::Nothing;
+        let index = self.place.index;
+        match self.first.lead_on::<FirstStep, H, L, K>(
+            Phase::First,
+            hands,
+            lent,
+            &mut self.first_log,
+            core,
+            index,
+            exit,
+        ) {
+            Some(to) => {
+                self.place = Place {
+                    phase: Phase::First,
+                    index: to,
+                };
+                true
+            }
+            None => false,
+        }
+    }
+
+    /// Makes a step of the second pass, as far as the loop over a pass makes it.
+    #[inline(always)]
+    fn lead_second<H: Handler, L: Slots, K: Core>(
+        &mut self,
+        hands: &H,
+        lent: &mut L,
+        core: &mut K,
+        exit: &mut Exit,
+    ) -> bool
+        requires walk { IsWalk self.old }
+        requires second { self.old.place.phase ≡ Phase.Second }
+        ensures begins { BeginsStep K.gives (H.behavior hands.now)
+            self.old (L.loan lent.old) core.old self.new (L.loan lent.new) core.new exit.new result }
+        ensures after { result ≡ false → HasIndexAfter exit.new self.new.place.index }
+        ensures want { result ≡ true → self.new.want ≡ Want.Nothing }
+        ensures lent { place_of (L.loan lent.new) ≡ place_of (L.loan lent.old) }
+        ensures stays { Stays self.old self.new }
+    {
+        self.want = Want::Nothing;
+        let index = self.place.index;
+        match self.second.lead_on::<SecondStep, H, L, K>(
+            Phase::Second,
+            hands,
+            lent,
+            &mut self.second_log,
+            core,
+            index,
+            exit,
+        ) {
+            Some(to) => {
+                self.place = Place {
+                    phase: Phase::Second,
+                    index: to,
+                };
+                true
+            }
+            None => false,
+        }
+    }
+
+    /// Makes the step at this place as far as the loop over a pass makes it, and whether that was the
+    /// whole step, and the traversal goes on. If not, `exit` says what is left of it.
+    #[inline(always)]
+    pub fn lead<H: Handler, L: Slots, K: Core>(
+        &mut self,
+        hands: &H,
+        lent: &mut L,
+        core: &mut K,
+        exit: &mut Exit,
+    ) -> bool
+        requires walk { IsWalk self.old }
+        ensures begins { BeginsStep K.gives (H.behavior hands.now)
+            self.old (L.loan lent.old) core.old self.new (L.loan lent.new) core.new exit.new result }
+        ensures after { result ≡ false → HasIndexAfter exit.new self.new.place.index }
+        ensures want { result ≡ true → self.new.want ≡ Want.Nothing }
+        ensures lent { place_of (L.loan lent.new) ≡ place_of (L.loan lent.old) }
+        ensures stays { Stays self.old self.new }
+    {
+        match self.place.phase {
+            Phase::First => self.lead_first(hands, lent, core, exit),
+            Phase::Second => self.lead_second(hands, lent, core, exit),
+            Phase::Guard | Phase::Take | Phase::Restore | Phase::Compare => {
+                *exit = Exit::Alone;
+                false
+            }
+            Phase::Verify | Phase::Enter | Phase::Give | Phase::Send | Phase::Done => {
+                *exit = Exit::Alone;
+                false
+            }
         }
     }
 
@@ -93,11 +205,11 @@ impl Walk {
     ) -> Many
         requires walk { IsWalk self.old }
         requires space { self.old.first.space ≡ space.now }
-        requires room { length (parsed_words (sealed_call (H.parsed hands.now input.now) self.old.sealed.nth)) ≤ space.now.input }
+        requires room { length (parsed_words (sealed_call ((H.behavior hands.now).parsed input.now) self.old.sealed.nth)) ≤ space.now.input }
         requires lent { IsOf space.now.geometry (L.loan lent.old) }
         requires first { self.old.place.phase ≡ Phase.First }
         ensures run { (steps : ℕ) → steps < 2 ^ 64 →
-            RunsOn K.gives K.counts (C.told clock.now) (service_of (H.statements hands.now) (H.call_count hands.now) (H.parsed hands.now) (H.rendered hands.now)) input.now result.before
+            RunsOn K.gives K.counts (C.told clock.now) (H.behavior hands.now) input.now result.before
             (on (begun_at self.old space.now steps) (L.loan lent.old) core.old) (on (left_at self.new space.now steps result) (L.loan lent.new) core.new) result.turned }
         ensures stays { Stays self.old self.new }
     {
@@ -132,11 +244,11 @@ impl Walk {
     ) -> Many
         requires walk { IsWalk self.old }
         requires space { self.old.first.space ≡ space.now }
-        requires room { length (parsed_words (sealed_call (H.parsed hands.now input.now) self.old.sealed.nth)) ≤ space.now.input }
+        requires room { length (parsed_words (sealed_call ((H.behavior hands.now).parsed input.now) self.old.sealed.nth)) ≤ space.now.input }
         requires lent { IsOf space.now.geometry (L.loan lent.old) }
         requires second { self.old.place.phase ≡ Phase.Second }
         ensures run { (steps : ℕ) → steps < 2 ^ 64 →
-            RunsOn K.gives K.counts (C.told clock.now) (service_of (H.statements hands.now) (H.call_count hands.now) (H.parsed hands.now) (H.rendered hands.now)) input.now result.before
+            RunsOn K.gives K.counts (C.told clock.now) (H.behavior hands.now) input.now result.before
             (on (begun_at self.old space.now steps) (L.loan lent.old) core.old) (on (left_at self.new space.now steps result) (L.loan lent.new) core.new) result.turned }
         ensures stays { Stays self.old self.new }
     {
@@ -169,14 +281,14 @@ impl Walk {
     ) -> Many
         requires walk { IsWalk self.old }
         requires space { self.old.first.space ≡ space.now }
-        requires room { length (parsed_words (sealed_call (H.parsed hands.now input.now) self.old.sealed.nth)) ≤ space.now.input }
+        requires room { length (parsed_words (sealed_call ((H.behavior hands.now).parsed input.now) self.old.sealed.nth)) ≤ space.now.input }
         requires lent { IsOf space.now.geometry (L.loan lent.old) }
         ensures run { (steps : ℕ) → steps < 2 ^ 64 →
-            RunsOn K.gives K.counts (C.told clock.now) (service_of (H.statements hands.now) (H.call_count hands.now) (H.parsed hands.now) (H.rendered hands.now)) input.now result.before
+            RunsOn K.gives K.counts (C.told clock.now) (H.behavior hands.now) input.now result.before
             (on (begun_at self.old space.now steps) (L.loan lent.old) core.old) (on (left_at self.new space.now steps result) (L.loan lent.new) core.new) result.turned }
         ensures stays { Stays self.old self.new }
     {
-        let state = self.step(hands, input, space, lent, core, clock);
+        let state = self.step_alone(hands, input, space, lent, core, clock);
         Many {
             before: 0,
             turned: Turned {
@@ -200,10 +312,10 @@ impl Walk {
     ) -> Many
         requires walk { IsWalk self.old }
         requires space { self.old.first.space ≡ space.now }
-        requires room { length (parsed_words (sealed_call (H.parsed hands.now input.now) self.old.sealed.nth)) ≤ space.now.input }
+        requires room { length (parsed_words (sealed_call ((H.behavior hands.now).parsed input.now) self.old.sealed.nth)) ≤ space.now.input }
         requires lent { IsOf space.now.geometry (L.loan lent.old) }
         ensures run { (steps : ℕ) → steps < 2 ^ 64 →
-            RunsOn K.gives K.counts (C.told clock.now) (service_of (H.statements hands.now) (H.call_count hands.now) (H.parsed hands.now) (H.rendered hands.now)) input.now result.before
+            RunsOn K.gives K.counts (C.told clock.now) (H.behavior hands.now) input.now result.before
             (on (begun_at self.old space.now steps) (L.loan lent.old) core.old) (on (left_at self.new space.now steps result) (L.loan lent.new) core.new) result.turned }
         ensures stays { Stays self.old self.new }
     {

@@ -1,10 +1,10 @@
-//! One step of a traversal.
+//! What each step of a traversal does: how often its act is made, and where it goes on.
 ghost use Rattle.std.specs.Prelude.{◌≡◌, ℕ, ◌+◌, ◌<◌, ◌≤◌, ◌^◌, IfSome, List, Some, length};
 ghost use Rattle.sei_fault.specs.Tree.{Runs, bound};
 ghost use Rattle.sei_stmt.specs.Handling.{parsed_words};
 ghost use Rattle.sei_words.specs.Loan.{words_of, bucket_of, place_of, IsOf};
 ghost use Rattle.sei_pass.specs.Setting.{sealed_call};
-ghost use Rattle.sei_traverse.specs.Service.{service_of, given_of};
+ghost use Rattle.sei_traverse.specs.Given.{given_of};
 ghost use Rattle.sei_traverse.specs.Step.{site_of, next_phase, is_halt, is_last, skipped, turn, arrival, is_end, plain_below, goes, goes_from, once, act_tree, twice, turn_at, turn_tree, Timed, TimedTwice};
 ghost use Rattle.sei_traverse.specs.Walks.{IsWalk, Stays};
 
@@ -85,7 +85,7 @@ impl Walk {
     #[inline(always)]
     fn site<H: Handler>(&self, hands: &H) -> Option<Act>
         requires { IsWalk self.now }
-        ensures act { (calls : _) (parsed : _) (rendered : _) → result ≡ site_of (service_of (H.statements hands.now) calls parsed rendered) self.now }
+        ensures act { result ≡ site_of (H.behavior hands.now) self.now }
         ensures below { IfSome result (λ _. self.now.place.index + 1 < 2 ^ 64) }
     {
         let index = self.place.index;
@@ -179,11 +179,11 @@ impl Walk {
     ) -> State
         requires walk { IsWalk self.old }
         requires space { self.old.first.space ≡ space.now }
-        requires room { length (parsed_words (sealed_call (H.parsed hands.now input.now) self.old.sealed.nth)) ≤ space.now.input }
+        requires room { length (parsed_words (sealed_call ((H.behavior hands.now).parsed input.now) self.old.sealed.nth)) ≤ space.now.input }
         requires index { self.old.place.index + 1 < 2 ^ 64 }
         requires lent { IsOf space.now.geometry (L.loan lent.old) }
         ensures once { Timed K.gives (C.told clock.now)
-            (λ now. once (given_of (service_of (H.statements hands.now) (H.call_count hands.now) (H.parsed hands.now) (H.rendered hands.now)) input.now space.now (bucket_of (L.loan lent.old))) now self.old (words_of (L.loan lent.old)))
+            (λ now. once (given_of (H.behavior hands.now) input.now space.now (bucket_of (L.loan lent.old))) now self.old (words_of (L.loan lent.old)))
             core.old core.new (turn self.new (words_of (L.loan lent.new)) result) }
         ensures lent { place_of (L.loan lent.new) ≡ place_of (L.loan lent.old) }
         ensures stays { Stays self.old self.new }
@@ -205,11 +205,11 @@ impl Walk {
     ) -> State
         requires walk { IsWalk self.old }
         requires space { self.old.first.space ≡ space.now }
-        requires room { length (parsed_words (sealed_call (H.parsed hands.now input.now) self.old.sealed.nth)) ≤ space.now.input }
+        requires room { length (parsed_words (sealed_call ((H.behavior hands.now).parsed input.now) self.old.sealed.nth)) ≤ space.now.input }
         requires index { self.old.place.index + 1 < 2 ^ 64 }
         requires lent { IsOf space.now.geometry (L.loan lent.old) }
         ensures twice { TimedTwice K.gives (C.told clock.now)
-            (λ now later. bound (act_tree (given_of (service_of (H.statements hands.now) (H.call_count hands.now) (H.parsed hands.now) (H.rendered hands.now)) input.now space.now (bucket_of (L.loan lent.old))) now self.old (words_of (L.loan lent.old))) (twice (given_of (service_of (H.statements hands.now) (H.call_count hands.now) (H.parsed hands.now) (H.rendered hands.now)) input.now space.now (bucket_of (L.loan lent.old))) later))
+            (λ now later. bound (act_tree (given_of (H.behavior hands.now) input.now space.now (bucket_of (L.loan lent.old))) now self.old (words_of (L.loan lent.old))) (twice (given_of (H.behavior hands.now) input.now space.now (bucket_of (L.loan lent.old))) later))
             core.old core.new (turn self.new (words_of (L.loan lent.new)) result) }
         ensures lent { place_of (L.loan lent.new) ≡ place_of (L.loan lent.old) }
         ensures stays { Stays self.old self.new }
@@ -238,11 +238,11 @@ impl Walk {
     ) -> State
         requires walk { IsWalk self.old }
         requires space { self.old.first.space ≡ space.now }
-        requires room { length (parsed_words (sealed_call (H.parsed hands.now input.now) self.old.sealed.nth)) ≤ space.now.input }
+        requires room { length (parsed_words (sealed_call ((H.behavior hands.now).parsed input.now) self.old.sealed.nth)) ≤ space.now.input }
         requires index { self.old.place.index + 1 < 2 ^ 64 }
         requires lent { IsOf space.now.geometry (L.loan lent.old) }
         ensures turned { TimedTwice K.gives (C.told clock.now)
-            (λ now later. turn_at (given_of (service_of (H.statements hands.now) (H.call_count hands.now) (H.parsed hands.now) (H.rendered hands.now)) input.now space.now (bucket_of (L.loan lent.old))) now later self.old (words_of (L.loan lent.old)) (Some act))
+            (λ now later. turn_at (given_of (H.behavior hands.now) input.now space.now (bucket_of (L.loan lent.old))) now later self.old (words_of (L.loan lent.old)) (Some act))
             core.old core.new (turn self.new (words_of (L.loan lent.new)) result) }
         ensures lent { place_of (L.loan lent.new) ≡ place_of (L.loan lent.old) }
         ensures stays { Stays self.old self.new }
@@ -261,9 +261,9 @@ impl Walk {
         }
     }
 
-    /// Makes the step at this place.
-    #[inline(always)]
-    pub fn step<H: Handler, L: Slots, K: Core, C: Clock>(
+    /// Makes the step at this place by itself, whatever its phase.
+    #[inline(never)]
+    pub fn step_alone<H: Handler, L: Slots, K: Core, C: Clock>(
         &mut self,
         hands: &H,
         input: &[u8],
@@ -274,10 +274,10 @@ impl Walk {
     ) -> State
         requires walk { IsWalk self.old }
         requires space { self.old.first.space ≡ space.now }
-        requires room { length (parsed_words (sealed_call (H.parsed hands.now input.now) self.old.sealed.nth)) ≤ space.now.input }
+        requires room { length (parsed_words (sealed_call ((H.behavior hands.now).parsed input.now) self.old.sealed.nth)) ≤ space.now.input }
         requires lent { IsOf space.now.geometry (L.loan lent.old) }
         ensures turned { TimedTwice K.gives (C.told clock.now)
-            (λ now later. turn_tree (given_of (service_of (H.statements hands.now) (H.call_count hands.now) (H.parsed hands.now) (H.rendered hands.now)) input.now space.now (bucket_of (L.loan lent.old))) now later self.old (words_of (L.loan lent.old)))
+            (λ now later. turn_tree (given_of (H.behavior hands.now) input.now space.now (bucket_of (L.loan lent.old))) now later self.old (words_of (L.loan lent.old)))
             core.old core.new (turn self.new (words_of (L.loan lent.new)) result) }
         ensures lent { place_of (L.loan lent.new) ≡ place_of (L.loan lent.old) }
         ensures stays { Stays self.old self.new }

@@ -30,13 +30,7 @@ struct Service {
 impl Handler for Service {
     ghost use Rattle.std.specs.Prelude.{[], ◌∷◌, Some, if◌then◌else◌};
 
-    ghost statements = { λ s. s.table };
-
-    ghost call_count = { λ _ _. Some 1 };
-
-    ghost parsed = { λ _ _ _. Some (record { bucket = 0; words = 7 ∷ [] }) };
-
-    ghost rendered = { λ s _. Some (if s.silent then [] else 65 ∷ []) };
+    ghost behavior = { λ s. record { statements = s.table; calls = λ _. Some 1; parsed = λ _ _. Some (record { bucket = 0; words = 7 ∷ [] }); rendered = λ _. Some (if s.silent then [] else 65 ∷ []) } };
 
     fn calls(&self, _input: &[u8]) -> Option<u64> {
         Some(1)
@@ -120,8 +114,62 @@ fn struck(phase: Phase, index: u64, kind: Kind) -> ScriptCore {
     }))
 }
 
-/// One step for the input `x` at second 1000, with the words lent or not.
+/// How a traversal is led: step by step, or by runs of steps.
+#[derive(Clone, Copy)]
+enum By {
+    Steps,
+    Runs,
+}
+
+/// One step or run for the input `x` at second 1000, with the words lent or not.
 fn turn<K: Core>(
+    traversal: &mut Traversal,
+    by: By,
+    service: &Service,
+    words: &mut Words,
+    lent: bool,
+    core: &mut K,
+) -> Turned
+    requires running { traversal.old.running ≡ true }
+    requires laid_out { words.old.geometry ≡ traversal.old.space.geometry }
+    requires room { 1 ≤ traversal.old.space.input }
+    ensures running { traversal.new.running ≡ is_running result.state }
+    ensures laid_out { words.new.geometry ≡ traversal.new.space.geometry }
+    ensures room { 1 ≤ traversal.new.space.input }
+{
+    match by {
+        By::Steps => step(traversal, service, words, lent, core),
+        By::Runs => run(traversal, service, words, lent, core),
+    }
+}
+
+/// One run.
+fn run<K: Core>(
+    traversal: &mut Traversal,
+    service: &Service,
+    words: &mut Words,
+    lent: bool,
+    core: &mut K,
+) -> Turned
+    requires running { traversal.old.running ≡ true }
+    requires laid_out { words.old.geometry ≡ traversal.old.space.geometry }
+    requires room { 1 ≤ traversal.old.space.input }
+    ensures running { traversal.new.running ≡ is_running result.state }
+    ensures laid_out { words.new.geometry ≡ traversal.new.space.geometry }
+    ensures room { 1 ≤ traversal.new.space.input }
+{
+    let clock = SetClock { at: 1000 };
+    if lent {
+        traversal
+            .run(service, b"x", Some(words), core, &clock)
+            .turned
+    } else {
+        traversal.run(service, b"x", None, core, &clock).turned
+    }
+}
+
+/// One step.
+fn step<K: Core>(
     traversal: &mut Traversal,
     service: &Service,
     words: &mut Words,
@@ -143,10 +191,11 @@ fn turn<K: Core>(
     }
 }
 
-/// How a traversal went: its wants in their order, and how it ended.
-#[derive(Drop)]
+/// How a traversal went: its wants in their order, in how many steps or runs, and how it ended.
+#[derive(Debug, PartialEq, Eq, Drop)]
 struct Way {
     wants: Vec<Want>,
+    turns: u64,
     state: State,
 }
 
@@ -155,6 +204,7 @@ struct Way {
 fn serve<K: Core>(
     alloc: Global,
     traversal: &mut Traversal,
+    by: By,
     service: &Service,
     sealed: Sealed,
     words: &mut Words,
@@ -167,8 +217,8 @@ fn serve<K: Core>(
     traversal.begin(sealed, Mode::Plain);
     let mut wants = Vec::new(alloc);
     let mut lent = false;
-    for _ in 0..100 {
-        let turned = turn(traversal, service, words, lent, core);
+    for turns in 1..100 {
+        let turned = turn(traversal, by, service, words, lent, core);
         match turned.want {
             Want::Take { .. } => lent = lends,
             Want::Give => lent = false,
@@ -179,7 +229,13 @@ fn serve<K: Core>(
         }
         match turned.state {
             State::Went => {}
-            state => return Ok(Way { wants, state }),
+            state => {
+                return Ok(Way {
+                    wants,
+                    turns,
+                    state,
+                });
+            }
         }
     }
     Err(Fail::new("it does not end"))
@@ -216,7 +272,7 @@ fn show_again(alloc: Global, traversal: &mut Traversal, call: Sealed) -> Result<
 }
 
 /// What came of a call.
-#[derive(Drop)]
+#[derive(Debug, PartialEq, Eq, Drop)]
 struct Served {
     way: Way,
     shown: Shown,
@@ -229,6 +285,7 @@ struct Served {
 fn serve_and_show<K: Core>(
     alloc: Global,
     traversal: &mut Traversal,
+    by: By,
     service: &Service,
     call: Sealed,
     words: &mut Words,
@@ -238,7 +295,7 @@ fn serve_and_show<K: Core>(
     requires laid_out { words.old.geometry ≡ traversal.old.space.geometry }
     requires room { 1 ≤ traversal.old.space.input }
 {
-    let way = serve(alloc, traversal, service, call, words, lends, core)?;
+    let way = serve(alloc, traversal, by, service, call, words, lends, core)?;
     let shown = show(alloc, traversal)?;
     let again = show_again(alloc, traversal, call)?;
     let word = words.get(0);
@@ -252,6 +309,7 @@ fn serve_and_show<K: Core>(
 
 fn outcome<K: Core>(
     alloc: Global,
+    by: By,
     silent: bool,
     call: Sealed,
     lends: bool,
@@ -263,6 +321,7 @@ fn outcome<K: Core>(
     serve_and_show(
         alloc,
         &mut traversal,
+        by,
         &service,
         call,
         &mut words,
@@ -288,7 +347,7 @@ fn a_call_goes_through_all_phases(rt: HostRuntime) -> Result<(), Fail> {
     let alloc = rt.alloc();
     let mut core = PlainCore::new();
     let call = sealed(b"x", Coded::seal(0));
-    let served = outcome(alloc, false, call, true, &mut core)?;
+    let served = outcome(alloc, By::Steps, false, call, true, &mut core)?;
     assert_eq!(rt;
         served.way.wants.as_slice(),
         [
@@ -338,7 +397,7 @@ fn another_input_or_call_is_refused(rt: HostRuntime) -> Result<(), Fail> {
         sealed(b"x", unreadable),
     ] {
         let mut core = PlainCore::new();
-        let served = outcome(alloc, false, call, true, &mut core)?;
+        let served = outcome(alloc, By::Steps, false, call, true, &mut core)?;
         assert!(rt; served.way.wants.is_empty());
         assert_eq!(rt; served.way.state, State::Refused);
         assert_eq!(rt; served.shown.place, START);
@@ -371,7 +430,7 @@ fn a_strike_aborts(rt: HostRuntime) -> Result<(), Fail> {
             AbortCause::Differs { index: 0 },
         ),
     ] {
-        let served = outcome(alloc, false, call, true, &mut core)?;
+        let served = outcome(alloc, By::Steps, false, call, true, &mut core)?;
         assert_eq!(rt;
             served.way.wants.as_slice(),
             [Want::Take { bucket: 0 }].as_slice()
@@ -385,7 +444,7 @@ fn a_strike_aborts(rt: HostRuntime) -> Result<(), Fail> {
 fn a_call_without_its_bucket_aborts(rt: HostRuntime) -> Result<(), Fail> {
     let mut core = PlainCore::new();
     let call = sealed(b"x", Coded::seal(0));
-    let served = outcome(rt.alloc(), false, call, false, &mut core)?;
+    let served = outcome(rt.alloc(), By::Steps, false, call, false, &mut core)?;
     assert_eq!(rt;
         served.way.wants.as_slice(),
         [Want::Take { bucket: 0 }].as_slice()
@@ -402,7 +461,7 @@ fn a_call_without_its_bucket_aborts(rt: HostRuntime) -> Result<(), Fail> {
 fn an_empty_reply_is_not_sent(rt: HostRuntime) -> Result<(), Fail> {
     let mut core = PlainCore::new();
     let call = sealed(b"x", Coded::seal(0));
-    let served = outcome(rt.alloc(), true, call, true, &mut core)?;
+    let served = outcome(rt.alloc(), By::Steps, true, call, true, &mut core)?;
     assert_eq!(rt;
         served.way.wants.as_slice(),
         [Want::Take { bucket: 0 }, Want::Enter, Want::Give].as_slice()
@@ -412,7 +471,53 @@ fn an_empty_reply_is_not_sent(rt: HostRuntime) -> Result<(), Fail> {
     Ok(())
 }
 
+/// By runs a call comes to the same end as by steps, with the same wants and in as many steps.
 #[test]
-fn the_law_of_sound_handlers_can_be_called() {
+fn runs_lead_where_steps_do(rt: HostRuntime) -> Result<(), Fail> {
+    let alloc = rt.alloc();
+    let call = sealed(b"x", Coded::seal(0));
+    let inside = Place {
+        phase: Phase::First,
+        index: 1,
+    };
+    for (phase, index, kind) in [
+        (Phase::First, 2, Kind::Skip),
+        (Phase::First, 3, Kind::Repeat),
+        (Phase::First, 4, Kind::Jump { to: inside }),
+        (Phase::First, 6, Kind::Skip),
+        (Phase::Second, 3, Kind::Write { mask: 1 }),
+        (Phase::Second, 4, Kind::Jump { to: END }),
+        (Phase::Second, 6, Kind::Repeat),
+        (Phase::Compare, 1, Kind::Flip),
+    ] {
+        let mut core = struck(phase, index, kind);
+        let steps = outcome(alloc, By::Steps, false, call, true, &mut core)?;
+        let mut core = struck(phase, index, kind);
+        let mut runs = outcome(alloc, By::Runs, false, call, true, &mut core)?;
+        runs.way.turns = steps.way.turns;
+        assert_eq!(rt; runs, steps);
+    }
+    Ok(())
+}
+
+/// `Const`, `Store`, `Emit` and `Render` are made in one run of each pass, and all other steps by
+/// themselves: 28 steps in 22 runs.
+#[test]
+fn a_run_makes_many_steps(rt: HostRuntime) -> Result<(), Fail> {
+    let alloc = rt.alloc();
+    let mut core = PlainCore::new();
+    let call = sealed(b"x", Coded::seal(0));
+    let served = outcome(alloc, By::Runs, false, call, true, &mut core)?;
+    assert_eq!(rt; served.way.turns, 22);
+    assert_eq!(rt; served.shown.steps, 28);
+    assert_eq!(rt; served.way.state, State::Finished);
+    assert_eq!(rt; served.word, Some(1000));
+    Ok(())
+}
+
+#[test]
+fn the_laws_can_be_called() {
     sound_handlers_are_trusted::<Service>();
+    runs_keep_what_steps_keep::<PlainCore>();
+    runs_go_as_steps_go::<PlainCore>();
 }

@@ -14,8 +14,8 @@ ghost use Rattle.sei_traverse.specs.Facts.{Facts, LendsWanted, Isolates};
 ghost use Rattle.sei_traverse.specs.OnWay.{lent_words, Lends, TellsAs, OnWay, StaysOnWay, IsUnfit};
 ghost use Rattle.sei_traverse.specs.Phases.{reply_of};
 ghost use Rattle.sei_traverse.specs.Running.{on, Makes, RunsOn};
-ghost use Rattle.sei_traverse.specs.Service.{service_of, given_of};
-ghost use Rattle.sei_traverse.specs.State.{begun_traversal, noted_time};
+ghost use Rattle.sei_traverse.specs.Given.{given_of};
+ghost use Rattle.sei_traverse.specs.State.{IsTraversal, begun_traversal, noted_time};
 ghost use Rattle.sei_traverse.specs.Trusted.{IsTrusted};
 
 use crate::turned::{Many, State, Turned, Want};
@@ -26,7 +26,7 @@ use sei_fault::{Core, Phase, Place};
 use sei_gate::Gate;
 use sei_log::{Notes, WriteLog};
 use sei_outside::Clock;
-use sei_pass::{PassSpace, Sealed, Slots};
+use sei_pass::{Exit, PassSpace, Sealed, Slots};
 use sei_stmt::Handler;
 use sei_words::{NoBucket, Words};
 use std::alloc::Global;
@@ -57,7 +57,7 @@ pub fn most_steps(g: &Geometry) -> u64
     requires { IsValid g.now }
     ensures { result ≡ most_steps (pass_space g.now) }
 {
-    let space = PassSpace::new(g);
+    let space = PassSpace::new(g, g.value_words);
     2 * space.budget + 6 * space.log + 26
 }
 
@@ -71,7 +71,7 @@ impl Traversal {
     {
         Ok(Traversal {
             walk: Walk::new(alloc, g)?,
-            space: PassSpace::new(g),
+            space: PassSpace::new(g, g.value_words),
             steps: 0,
             running: false,
         })
@@ -139,16 +139,25 @@ impl Traversal {
 
     /// The reply: the output bytes of the second pass.
     pub fn reply(&self) -> &[u8]
-        ensures { result.now ≡ reply_of self.now.walk }
+        ensures bytes { result.now ≡ reply_of self.now.walk }
+        ensures fits { length result.now ≤ self.now.space.bytes }
     {
         self.walk.second.bytes()
     }
 
     /// The copy of the reply for the wire.
     pub fn wire(&self) -> &[u8]
-        ensures { result.now ≡ self.now.walk.wire.items }
+        ensures bytes { result.now ≡ self.now.walk.wire.items }
+        ensures fits { length result.now ≤ self.now.space.bytes }
     {
         self.walk.wire.bytes()
+    }
+
+    /// How many bytes a reply has at most.
+    pub fn reply_room(&self) -> u64
+        ensures { result ≡ self.now.space.bytes }
+    {
+        self.space.bytes
     }
 
     /// The time that the first pass was told and noted, where the note reads.
@@ -175,11 +184,11 @@ impl Traversal {
     ) -> Turned
         requires running { self.old.running ≡ true }
         // The input words of the passes have room for what the hands make of the input.
-        requires room { length (parsed_words (sealed_call (H.parsed hands.now input.now) self.old.walk.sealed.nth)) ≤ self.old.space.input }
+        requires room { length (parsed_words (sealed_call ((H.behavior hands.now).parsed input.now) self.old.walk.sealed.nth)) ≤ self.old.space.input }
         // What is lent is of the traversal's geometry.
         requires lent { IsOf self.old.space.geometry (lent_at lent) }
         // The step is that of the definition, whatever the core answers.
-        ensures makes { Makes K.gives K.counts (C.told clock.now) (service_of (H.statements hands.now) (H.call_count hands.now) (H.parsed hands.now) (H.rendered hands.now)) input.now
+        ensures makes { Makes K.gives K.counts (C.told clock.now) (H.behavior hands.now) input.now
             (on self.old (lent_at lent.entry) core.old) (on self.new (lent_left lent.exit) core.new) result }
         // Each step but a struck one comes further, so with one strike at most the number of steps is bounded.
         ensures within { (begin : Counts) → StepsWithin self.old begin (K.counts core.old) → StepsAfter self.new begin (K.counts core.new) result.state }
@@ -189,19 +198,19 @@ impl Traversal {
         // A traversal that is on its way stays on it: it is refused or aborts only where a strike fell since it began,
         // and otherwise stands where its definition leads, or has come to its end.
         ensures on_way { (e : Errand) (begin : Counts) → IsErrand e → TellsAs e.clock (C.told clock.now) →
-            e.service ≡ service_of (H.statements hands.now) (H.call_count hands.now) (H.parsed hands.now) (H.rendered hands.now) → e.input ≡ input.now →
+            e.behavior ≡ H.behavior hands.now → e.input ≡ input.now →
             Lends e self.old.walk.place.phase (lent_at lent.entry) → OnWay e self.old (lent_words (lent_at lent.entry)) begin (K.counts core.old) →
             StaysOnWay e self.old self.new (lent_words (lent_left lent.exit)) begin (K.counts core.new) result.want result.state }
         // One strike is isolated: what is known of a traversal is known behind each step; what it wants is so, and is wanted
         // but once; it aborts only where a strike fell, and is refused only before Take is closed. Where the caller follows
         // what is wanted, it lends what the next step asks for.
         ensures isolated { (e : Errand) (begin : Counts) → IsTrusted e → TellsAs e.clock (C.told clock.now) →
-            e.service ≡ service_of (H.statements hands.now) (H.call_count hands.now) (H.parsed hands.now) (H.rendered hands.now) → e.input ≡ input.now →
+            e.behavior ≡ H.behavior hands.now → e.input ≡ input.now →
             LendsWanted self.old.walk (lent_at lent.entry) → Facts e self.old (lent_words (lent_at lent.entry)) begin (K.counts core.old) →
             (K.counts core.new).struck ≤ begin.struck + 1 →
             Isolates e self.old self.new (lent_at lent.entry) (lent_left lent.exit) begin (K.counts core.new) result.want result.state }
         // Without a strike an input that does not pass the tests of Guard is refused.
-        ensures refused { IsUnfit (given_of (service_of (H.statements hands.now) (H.call_count hands.now) (H.parsed hands.now) (H.rendered hands.now)) input.now self.old.space None) self.old.walk →
+        ensures refused { IsUnfit (given_of (H.behavior hands.now) input.now self.old.space None) self.old.walk →
             (K.counts core.new).struck ≡ (K.counts core.old).struck → result.state ≡ State.Refused }
     {
         match lent {
@@ -220,31 +229,62 @@ impl Traversal {
         core: &mut K,
         clock: &C,
     ) -> Turned
-        requires room { length (parsed_words (sealed_call (H.parsed hands.now input.now) self.old.walk.sealed.nth)) ≤ self.old.space.input }
+        requires running { self.old.running ≡ true }
+        requires room { length (parsed_words (sealed_call ((H.behavior hands.now).parsed input.now) self.old.walk.sealed.nth)) ≤ self.old.space.input }
         requires lent { IsOf self.old.space.geometry (L.loan lent.old) }
-        ensures makes { Makes K.gives K.counts (C.told clock.now) (service_of (H.statements hands.now) (H.call_count hands.now) (H.parsed hands.now) (H.rendered hands.now)) input.now
+        ensures makes { Makes K.gives K.counts (C.told clock.now) (H.behavior hands.now) input.now
             (on self.old (L.loan lent.old) core.old) (on self.new (L.loan lent.new) core.new) result }
         ensures within { (begin : Counts) → StepsWithin self.old begin (K.counts core.old) → StepsAfter self.new begin (K.counts core.new) result.state }
         ensures room { (r : ℕ) → (K.counts core.old).room ≡ Some r →
             (s : ℕ) × ((K.counts core.new).room ≡ Some s) × ((K.counts core.new).struck + s ≡ (K.counts core.old).struck + r) }
         ensures on_way { (e : Errand) (begin : Counts) → IsErrand e → TellsAs e.clock (C.told clock.now) →
-            e.service ≡ service_of (H.statements hands.now) (H.call_count hands.now) (H.parsed hands.now) (H.rendered hands.now) → e.input ≡ input.now →
+            e.behavior ≡ H.behavior hands.now → e.input ≡ input.now →
             Lends e self.old.walk.place.phase (L.loan lent.old) → OnWay e self.old (lent_words (L.loan lent.old)) begin (K.counts core.old) →
             StaysOnWay e self.old self.new (lent_words (L.loan lent.new)) begin (K.counts core.new) result.want result.state }
         ensures isolated { (e : Errand) (begin : Counts) → IsTrusted e → TellsAs e.clock (C.told clock.now) →
-            e.service ≡ service_of (H.statements hands.now) (H.call_count hands.now) (H.parsed hands.now) (H.rendered hands.now) → e.input ≡ input.now →
+            e.behavior ≡ H.behavior hands.now → e.input ≡ input.now →
             LendsWanted self.old.walk (L.loan lent.old) → Facts e self.old (lent_words (L.loan lent.old)) begin (K.counts core.old) →
             (K.counts core.new).struck ≤ begin.struck + 1 →
             Isolates e self.old self.new (L.loan lent.old) (L.loan lent.new) begin (K.counts core.new) result.want result.state }
-        ensures refused { IsUnfit (given_of (service_of (H.statements hands.now) (H.call_count hands.now) (H.parsed hands.now) (H.rendered hands.now)) input.now self.old.space None) self.old.walk →
+        ensures refused { IsUnfit (given_of (H.behavior hands.now) input.now self.old.space None) self.old.walk →
             (K.counts core.new).struck ≡ (K.counts core.old).struck → result.state ≡ State.Refused }
     {
-        let state = self.walk.step(hands, input, &self.space, lent, core, clock);
+        self.make(hands, input, lent, core, clock)
+    }
+
+    /// The same step, which is often one of a pass that leads on in it.
+    #[inline(always)]
+    fn make<H: Handler, L: Slots, K: Core, C: Clock>(
+        &mut self,
+        hands: &H,
+        input: &[u8],
+        lent: &mut L,
+        core: &mut K,
+        clock: &C,
+    ) -> Turned
+        requires running { self.old.running ≡ true }
+        requires room { length (parsed_words (sealed_call ((H.behavior hands.now).parsed input.now) self.old.walk.sealed.nth)) ≤ self.old.space.input }
+        requires lent { IsOf self.old.space.geometry (L.loan lent.old) }
+        ensures makes { Makes K.gives K.counts (C.told clock.now) (H.behavior hands.now) input.now
+            (on self.old (L.loan lent.old) core.old) (on self.new (L.loan lent.new) core.new) result }
+        ensures traversal { IsTraversal self.old }
+    {
         self.steps = self.steps.saturating_add(1);
-        self.running = state == State::Went;
-        Turned {
-            want: self.walk.want,
-            state,
+        let mut exit = Exit::Alone;
+        if self.walk.lead(hands, lent, core, &mut exit) {
+            Turned {
+                want: Want::Nothing,
+                state: State::Went,
+            }
+        } else {
+            let state = self
+                .walk
+                .rest(exit, hands, input, &self.space, lent, core, clock);
+            self.running = state == State::Went;
+            Turned {
+                want: self.walk.want,
+                state,
+            }
         }
     }
 
@@ -260,10 +300,10 @@ impl Traversal {
         clock: &C,
     ) -> Many
         requires running { self.old.running ≡ true }
-        requires room { length (parsed_words (sealed_call (H.parsed hands.now input.now) self.old.walk.sealed.nth)) ≤ self.old.space.input }
+        requires room { length (parsed_words (sealed_call ((H.behavior hands.now).parsed input.now) self.old.walk.sealed.nth)) ≤ self.old.space.input }
         requires lent { IsOf self.old.space.geometry (lent_at lent) }
         // So many steps that want nothing, and one more: each is that of the definition, whatever the core answers.
-        ensures run { RunsOn K.gives K.counts (C.told clock.now) (service_of (H.statements hands.now) (H.call_count hands.now) (H.parsed hands.now) (H.rendered hands.now)) input.now result.before
+        ensures run { RunsOn K.gives K.counts (C.told clock.now) (H.behavior hands.now) input.now result.before
             (on self.old (lent_at lent.entry) core.old) (on self.new (lent_left lent.exit) core.new) result.turned }
     {
         match lent {
@@ -282,9 +322,9 @@ impl Traversal {
         clock: &C,
     ) -> Many
         requires running { self.old.running ≡ true }
-        requires room { length (parsed_words (sealed_call (H.parsed hands.now input.now) self.old.walk.sealed.nth)) ≤ self.old.space.input }
+        requires room { length (parsed_words (sealed_call ((H.behavior hands.now).parsed input.now) self.old.walk.sealed.nth)) ≤ self.old.space.input }
         requires lent { IsOf self.old.space.geometry (L.loan lent.old) }
-        ensures run { RunsOn K.gives K.counts (C.told clock.now) (service_of (H.statements hands.now) (H.call_count hands.now) (H.parsed hands.now) (H.rendered hands.now)) input.now result.before
+        ensures run { RunsOn K.gives K.counts (C.told clock.now) (H.behavior hands.now) input.now result.before
             (on self.old (L.loan lent.old) core.old) (on self.new (L.loan lent.new) core.new) result.turned }
     {
         let many = self.walk.run(hands, input, &self.space, lent, core, clock);

@@ -80,7 +80,7 @@ impl Walk {
         ensures walk { IfOk result IsWalk }
         ensures space { IfOk result (λ walk. walk.first.space ≡ pass_space g.now) }
     {
-        let space = PassSpace::new(g);
+        let space = PassSpace::new(g, g.value_words);
         let (first_log, second_log) = logs(alloc, &space)?;
         let wire = Buffer::new(alloc, space.bytes as usize)?;
         let (first, second) = passes(alloc, g)?;

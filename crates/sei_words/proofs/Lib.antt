@@ -5,3 +5,4 @@ pub mod HoldsLaws
 pub mod MomentLaws
 pub mod FullLaws
 pub mod PublicChanges
+pub mod Public

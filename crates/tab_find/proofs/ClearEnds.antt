@@ -14,7 +14,7 @@ use Rattle.sei_words.proofs.PublicLayout.{slot_first, slot_next, slot_apart, slo
 use Rattle.sei_words.proofs.PublicSlots.{field_is}
 use Rattle.sei_stmt.specs.Runs.{Given, RunState, tick}
 use Rattle.sei_stmt.specs.Programs.{Block, Ends}
-use Rattle.sei_stmt.proofs.FrameLaws.{repeat}
+use Rattle.sei_stmt.proofs.Public.{repeat}
 use Rattle.tab_find.specs.Answers.{HasConstants}
 use Rattle.tab_find.specs.Found.{Changed}
 use Rattle.tab_find.specs.Registers.{r_zero, r_width, r_end, r_address}

@@ -8,7 +8,7 @@ use Rattle.sei_words.specs.Layout.{slot_at, word_count, field, key_offset, key_r
 use Rattle.sei_stmt.specs.Runs.{Given, RunState, tick}
 use Rattle.sei_stmt.specs.Programs.{Ends}
 use Rattle.sei_stmt.specs.Touch.{Framed}
-use Rattle.sei_stmt.proofs.FrameLaws.{repeat}
+use Rattle.sei_stmt.proofs.Public.{repeat}
 use Rattle.tab_find.specs.FindPrograms.{compare_turn, compare_key}
 use Rattle.tab_find.specs.Inputs.{key_index}
 use Rattle.tab_find.specs.Registers.{r_place, r_base, r_address, r_index, r_limit}

@@ -7,7 +7,7 @@ use Rattle.sei_stmt.specs.Order.{is_parsed}
 use Rattle.sei_stmt.specs.Runs.{Given, RunState, tick}
 use Rattle.sei_stmt.specs.Programs.{Block, Ends, IsParsed, HasWord}
 use Rattle.sei_stmt.specs.Touch.{Touch, Framed}
-use Rattle.sei_stmt.proofs.FrameLaws.{repeat}
+use Rattle.sei_stmt.proofs.Public.{repeat}
 use Rattle.tab_find.specs.Copies.{IsCopied, Copied, CanCopy}
 use Rattle.tab_find.specs.Registers.{r_one, r_address, r_word, r_index}
 use Rattle.tab_find.specs.StorePrograms.{copy_turn, copy_run}

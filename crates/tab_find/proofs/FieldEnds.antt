@@ -17,7 +17,7 @@ use Rattle.sei_words.proofs.PublicSlots.{taken_used, stay_on, fields_others, fie
 use Rattle.sei_stmt.specs.Order.{is_parsed}
 use Rattle.sei_stmt.specs.Runs.{Given, RunState}
 use Rattle.sei_stmt.specs.Programs.{Ends, IsParsed}
-use Rattle.sei_stmt.proofs.FrameLaws.{then_so}
+use Rattle.sei_stmt.proofs.Public.{then_so}
 use Rattle.tab_find.specs.Registers.{r_zero, r_one, r_place, r_unique, r_value_words}
 use Rattle.tab_find.specs.StorePrograms.{replace_fields}
 use Rattle.tab_find.proofs.Copy.{put_all, put_all_size, put_all_off, put_all_stored}

@@ -10,7 +10,7 @@ use Rattle.sei_stmt.specs.Runs.{Given, RunState, tick, write}
 use Rattle.sei_stmt.specs.Programs.{Block, RepeatLt, Ends, IsParsed}
 use Rattle.sei_stmt.specs.declared.stmt.Stmt.TheVariants.{Add}
 use Rattle.sei_stmt.specs.Touch.{Framed}
-use Rattle.sei_stmt.proofs.FrameLaws.{repeat, seq}
+use Rattle.sei_stmt.proofs.Public.{repeat, seq}
 use Rattle.tab_find.specs.Answers.{HasConstants}
 use Rattle.tab_find.specs.FindPrograms.{look, find_turn, find_program}
 use Rattle.tab_find.specs.Found.{HasKeyLoaded}

@@ -11,7 +11,7 @@ use Rattle.sei_words.specs.Stands.{Reads, StandsFor}
 use Rattle.sei_words.proofs.PublicLayout.{key_word}
 use Rattle.sei_stmt.specs.Runs.{Given, RunState}
 use Rattle.sei_stmt.specs.Programs.{Ends, IsParsed}
-use Rattle.sei_stmt.proofs.FrameLaws.{then_so}
+use Rattle.sei_stmt.proofs.Public.{then_so}
 use Rattle.tab_find.specs.Answers.{IsBounded, HasConstants}
 use Rattle.tab_find.specs.Calls.{HasKey}
 use Rattle.tab_find.specs.FindPrograms.{find_program}

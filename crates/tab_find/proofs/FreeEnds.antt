@@ -10,7 +10,7 @@ use Rattle.sei_stmt.specs.Runs.{Given, RunState, tick, take_slot}
 use Rattle.sei_stmt.specs.Programs.{Ends, Block}
 use Rattle.sei_stmt.specs.declared.stmt.Stmt.TheVariants.{Add, Sub}
 use Rattle.sei_stmt.specs.Touch.{Touch}
-use Rattle.sei_stmt.proofs.FrameLaws.{then_so, repeat}
+use Rattle.sei_stmt.proofs.Public.{then_so, repeat}
 use Rattle.tab_find.specs.Answers.{HasConstants}
 use Rattle.tab_find.specs.FindPrograms.{address_program, free_program}
 use Rattle.tab_find.specs.Fit.{IsAnswer, FitIsAnswer}

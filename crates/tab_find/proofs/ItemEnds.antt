@@ -12,7 +12,7 @@ use Rattle.sei_words.proofs.PublicChanges.{stored}
 use Rattle.sei_stmt.specs.Runs.{Given, RunState}
 use Rattle.sei_stmt.specs.Programs.{Prog, Seq, Ends}
 use Rattle.sei_stmt.specs.Touch.{Touch, within}
-use Rattle.sei_stmt.proofs.FrameLaws.{seq, then_so}
+use Rattle.sei_stmt.proofs.Public.{seq, then_so}
 use Rattle.tab_find.specs.StorePrograms.{store_value}
 use Rattle.tab_find.specs.Copies.{store_steps, store_stores, CanStoreIn, HasStored}
 use Rattle.tab_find.proofs.StoreValue.{storer, store_value_ends}

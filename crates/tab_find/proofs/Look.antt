@@ -9,7 +9,7 @@ use Rattle.sei_words.specs.Free.{IsTaken}
 use Rattle.sei_words.proofs.PublicSlots.{taken_is, unused_is_free, expired_is_free}
 use Rattle.sei_stmt.specs.Runs.{Given, RunState, tick, write}
 use Rattle.sei_stmt.specs.Programs.{Ends}
-use Rattle.sei_stmt.proofs.FrameLaws.{then_so}
+use Rattle.sei_stmt.proofs.Public.{then_so}
 use Rattle.tab_find.specs.FindPrograms.{compare_key, look, look_expiry, look_hash, look_length}
 use Rattle.tab_find.specs.Registers.{r_place, r_base, r_address, r_word}
 use Rattle.tab_find.proofs.SlotReads.{loads, goes_on}

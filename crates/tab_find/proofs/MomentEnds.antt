@@ -13,7 +13,7 @@ use Rattle.sei_stmt.specs.Order.{parsed, timed}
 use Rattle.sei_stmt.specs.Runs.{Given, RunState}
 use Rattle.sei_stmt.specs.Programs.{Ends}
 use Rattle.sei_stmt.specs.Touch.{Touch}
-use Rattle.sei_stmt.proofs.FrameLaws.{then_so}
+use Rattle.sei_stmt.proofs.Public.{then_so}
 use Rattle.tab_find.specs.Answers.{HasConstants}
 use Rattle.tab_find.specs.FindPrograms.{moment_program}
 use Rattle.tab_find.specs.Found.{Arrived}

@@ -13,7 +13,7 @@ use Rattle.sei_stmt.specs.Runs.{Given, RunState}
 use Rattle.sei_stmt.specs.declared.stmt.Stmt.TheVariants.{Add}
 use Rattle.sei_stmt.specs.Programs.{Prog, Block, Seq, Ends}
 use Rattle.sei_stmt.specs.Touch.{Touch}
-use Rattle.sei_stmt.proofs.FrameLaws.{seq, then_so}
+use Rattle.sei_stmt.proofs.Public.{seq, then_so}
 use Rattle.tab_find.specs.Calls.{HasKey}
 use Rattle.tab_find.specs.Found.{HasKeyLoaded}
 use Rattle.tab_find.specs.Inputs.{key_index}

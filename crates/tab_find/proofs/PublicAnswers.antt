@@ -28,7 +28,7 @@ use Rattle.sei_stmt.specs.Order.{is_open, may_render}
 use Rattle.sei_stmt.specs.Runs.{Given, RunState, tick}
 use Rattle.sei_stmt.specs.Programs.{Prog, IfLt, HasWord, Ends, IsOpen, MayRender, Post}
 use Rattle.sei_stmt.specs.Touch.{Touch, anything, within, Framed}
-use Rattle.sei_stmt.proofs.FrameLaws.{then_so, any_program}
+use Rattle.sei_stmt.proofs.Public.{then_so, any_program}
 use Rattle.tab_find.specs.Answers.{HasConstants, HasBegun, outcome_at, reply_at, Renders, Replied, Answered}
 use Rattle.tab_find.specs.Calls.{IsCall, mark}
 use Rattle.tab_find.specs.Inputs.{key_index}

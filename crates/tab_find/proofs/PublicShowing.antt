@@ -12,7 +12,7 @@ use Rattle.sei_words.specs.Value.{HasValue}
 use Rattle.sei_words.proofs.PublicLayout.{slot_within, width_is, field_within, few_words}
 use Rattle.sei_stmt.specs.Runs.{Given, RunState, tick, write}
 use Rattle.sei_stmt.specs.Programs.{Prog, RepeatLt, Ends, HasWord, Post}
-use Rattle.sei_stmt.proofs.FrameLaws.{then_so}
+use Rattle.sei_stmt.proofs.Public.{then_so}
 use Rattle.tab_find.specs.Answers.{HasConstants}
 use Rattle.tab_find.specs.Calls.{mark}
 use Rattle.tab_find.specs.Found.{IsPresent, HasKeyLoaded}

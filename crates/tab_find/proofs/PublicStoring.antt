@@ -17,7 +17,7 @@ use Rattle.sei_stmt.specs.Order.{is_parsed}
 use Rattle.sei_stmt.specs.Runs.{Given, RunState}
 use Rattle.sei_stmt.specs.Programs.{Seq, Ends, IsParsed, Prog}
 use Rattle.sei_stmt.specs.Touch.{Touch, within, Framed}
-use Rattle.sei_stmt.proofs.FrameLaws.{seq, then_so}
+use Rattle.sei_stmt.proofs.Public.{seq, then_so}
 use Rattle.tab_find.specs.Answers.{HasConstants}
 use Rattle.tab_find.specs.Calls.{HasKey}
 use Rattle.tab_find.specs.Found.{IsPresent, IsGiven, HasKeyLoaded, Changed}

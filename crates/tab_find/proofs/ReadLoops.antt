@@ -10,7 +10,7 @@ use Rattle.sei_stmt.specs.Order.{is_open}
 use Rattle.sei_stmt.specs.Runs.{Given, RunState, tick, write, emit}
 use Rattle.sei_stmt.specs.Programs.{Prog, Block, RepeatLt, Ends, BeforeAll, IsOpen, HasWord, Post}
 use Rattle.sei_stmt.specs.Touch.{Touch, within}
-use Rattle.sei_stmt.proofs.FrameLaws.{repeat, put_other}
+use Rattle.sei_stmt.proofs.Public.{repeat, put_other}
 use Rattle.tab_find.specs.Registers.{r_one, r_address, r_word, r_limit, r_passed, r_flags, r_unique, r_value_length, r_eight}
 use Rattle.tab_find.specs.ShowPrograms.{Sink, Out, sink_stmt, read_run, read_value}
 use Rattle.tab_find.proofs.MachineLaws.{sum_is, word_is}

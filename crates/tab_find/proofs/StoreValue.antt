@@ -9,7 +9,7 @@ use Rattle.sei_words.proofs.PublicSlots.{slot_others}
 use Rattle.sei_stmt.specs.Runs.{Given, RunState, tick}
 use Rattle.sei_stmt.specs.Programs.{Ends}
 use Rattle.sei_stmt.specs.Touch.{Touch}
-use Rattle.sei_stmt.proofs.FrameLaws.{then_so}
+use Rattle.sei_stmt.proofs.Public.{then_so}
 use Rattle.tab_find.specs.Copies.{IsCopied, Copied, CanStoreIn, HasStored, store_steps, store_stores}
 use Rattle.tab_find.specs.Registers.{r_limit}
 use Rattle.tab_find.specs.StorePrograms.{copy_run, store_value}

@@ -17,7 +17,7 @@ use Rattle.sei_stmt.specs.Order.{is_open, is_parsed, may_render}
 use Rattle.sei_stmt.specs.Runs.{Given, RunState, tick}
 use Rattle.sei_stmt.specs.Programs.{Prog, Block, Seq, IfLt, Ends}
 use Rattle.sei_stmt.specs.Touch.{Touch}
-use Rattle.sei_stmt.proofs.FrameLaws.{seq, then_so}
+use Rattle.sei_stmt.proofs.Public.{seq, then_so}
 use Rattle.tab_find.specs.Answers.{CanAnswer, HasBegun, Renders, Replied, Answered, AnswersCall, AnswersCalls, AtKey}
 use Rattle.tab_find.specs.Found.{IsPresent, HasKeyLoaded, Sought}
 use Rattle.tab_find.specs.Inputs.{text_index}

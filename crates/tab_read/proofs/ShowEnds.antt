@@ -13,7 +13,7 @@ use Rattle.sei_stmt.specs.Order.{is_open}
 use Rattle.sei_stmt.specs.Runs.{Given, RunState, tick}
 use Rattle.sei_stmt.specs.Programs.{Seq, Ends}
 use Rattle.sei_stmt.specs.Touch.{Touch}
-use Rattle.sei_stmt.proofs.FrameLaws.{seq, open_is_parsed}
+use Rattle.sei_stmt.proofs.Public.{seq, open_is_parsed}
 use Rattle.tab_find.specs.Answers.{HasConstants}
 use Rattle.tab_find.specs.Calls.{IsCall, mark}
 use Rattle.tab_find.specs.Found.{IsPresent, HasKeyLoaded}

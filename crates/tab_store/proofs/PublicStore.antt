@@ -20,7 +20,7 @@ use Rattle.sei_stmt.specs.Order.{is_open, is_parsed, may_render}
 use Rattle.sei_stmt.specs.Runs.{Given, RunState, tick}
 use Rattle.sei_stmt.specs.Programs.{Seq, IfLt, Ends, MayRender}
 use Rattle.sei_stmt.specs.Touch.{Touch, anything, Framed}
-use Rattle.sei_stmt.proofs.FrameLaws.{seq, then_so, may_render_open, open_is_parsed}
+use Rattle.sei_stmt.proofs.Public.{seq, then_so, may_render_open, open_is_parsed}
 use Rattle.tab_find.specs.Answers.{CanAnswer, HasConstants, HasBegun, outcome_at, Replied, Answered, AnswersCall, AnswersCalls, AtKey}
 use Rattle.tab_find.specs.Found.{IsPresent, IsGiven, KeyFound, HasKeyLoaded, Sought, Offered}
 use Rattle.tab_find.specs.Inputs.{block_index}

@@ -83,6 +83,7 @@ fn write_entered<K: Sink>(
     ensures all { OnOk result (K.written sink.new ≡ append_known (K.written sink.old) (entered_text reporter.history c number bucket entered.now)) }
     ensures part { WrotePart (K.written sink.old) (K.written sink.new) (entered_text reporter.history c number bucket entered.now) }
     ensures fault { result ≡ Err Stop.WriteFault → Rose (K.faults sink.old) (K.faults sink.new) }
+    ensures told { K.faults sink.old < K.faults sink.new → result ≡ Err Stop.WriteFault }
     ensures later { K.faults sink.old ≤ K.faults sink.new }
 {
     match entered {
@@ -104,6 +105,7 @@ fn write_ended<K: Sink>(
     ensures all { OnOk result (K.written sink.new ≡ append_known (K.written sink.old) (ended_text c number state)) }
     ensures part { WrotePart (K.written sink.old) (K.written sink.new) (ended_text c number state) }
     ensures fault { result ≡ Err Stop.WriteFault → Rose (K.faults sink.old) (K.faults sink.new) }
+    ensures told { K.faults sink.old < K.faults sink.new → result ≡ Err Stop.WriteFault }
     ensures later { K.faults sink.old ≤ K.faults sink.new }
 {
     match state {
@@ -127,6 +129,7 @@ fn write_served<K: Sink>(
     ensures all { OnOk result (K.written sink.new ≡ append_known (K.written sink.old) (served_text reporter.history c number bucket served.now)) }
     ensures part { WrotePart (K.written sink.old) (K.written sink.new) (served_text reporter.history c number bucket served.now) }
     ensures fault { result ≡ Err Stop.WriteFault → Rose (K.faults sink.old) (K.faults sink.new) }
+    ensures told { K.faults sink.old < K.faults sink.new → result ≡ Err Stop.WriteFault }
     ensures later { K.faults sink.old ≤ K.faults sink.new }
 {
     write_entered(reporter, sink, c, number, bucket, &served.entered)?;
@@ -159,6 +162,7 @@ fn answer_call<S: Service, K: Sink>(
     ensures all { OnOk result (K.written sink.new ≡ append_known (K.written sink.old) (events_text reporter.history (answer_in S.answering (asking_of asking text.now plans.now) nth messages server.old (placed_of text.now call.now)).events)) }
     ensures part { WrotePart (K.written sink.old) (K.written sink.new) (events_text reporter.history (answer_in S.answering (asking_of asking text.now plans.now) nth messages server.old (placed_of text.now call.now)).events) }
     ensures fault { result ≡ Err Stop.WriteFault → Rose (K.faults sink.old) (K.faults sink.new) }
+    ensures told { K.faults sink.old < K.faults sink.new → result ≡ Err Stop.WriteFault }
     ensures later { K.faults sink.old ≤ K.faults sink.new }
 {
     let number = asking.first + nth;
@@ -217,6 +221,7 @@ fn answer_calls<S: Service, K: Sink>(
     ensures all { OnOk result (K.written sink.new ≡ append_known (K.written sink.old) (events_text reporter.history (answers_by S.answering (asking_of asking text.now plans.now) 0 0 server.old (calls_at text.now request.now)).events)) }
     ensures part { WrotePart (K.written sink.old) (K.written sink.new) (events_text reporter.history (answers_by S.answering (asking_of asking text.now plans.now) 0 0 server.old (calls_at text.now request.now)).events) }
     ensures fault { result ≡ Err Stop.WriteFault → Rose (K.faults sink.old) (K.faults sink.new) }
+    ensures told { K.faults sink.old < K.faults sink.new → result ≡ Err Stop.WriteFault }
     ensures later { K.faults sink.old ≤ K.faults sink.new }
 {
     let mut answered = Answered {
@@ -266,6 +271,7 @@ fn take_request<S: Service, K: Sink>(
     ensures all { OnOk result (K.written sink.new ≡ append_known (K.written sink.old) (events_text reporter.history (events_to S.answering now plans.now c server.old connection.old size request.now))) }
     ensures part { WrotePart (K.written sink.old) (K.written sink.new) (events_text reporter.history (events_to S.answering now plans.now c server.old connection.old size request.now)) }
     ensures fault { result ≡ Err Stop.WriteFault → Rose (K.faults sink.old) (K.faults sink.new) }
+    ensures told { K.faults sink.old < K.faults sink.new → result ≡ Err Stop.WriteFault }
     ensures later { K.faults sink.old ≤ K.faults sink.new }
 {
     let text = &connection.waiting()[..size];
@@ -382,6 +388,7 @@ impl<S: Service> World<S> {
         ensures all { OnOk result (K.written sink.new ≡ append_known (K.written sink.old) (events_text reporter.history (step_by S.answering self.old c).events)) }
         ensures part { WrotePart (K.written sink.old) (K.written sink.new) (events_text reporter.history (step_by S.answering self.old c).events) }
         ensures fault { result ≡ Err Stop.WriteFault → Rose (K.faults sink.old) (K.faults sink.new) }
+        ensures told { K.faults sink.old < K.faults sink.new → result ≡ Err Stop.WriteFault }
         ensures later { K.faults sink.old ≤ K.faults sink.new }
     {
         if self.aborted {
@@ -417,6 +424,7 @@ impl<S: Service> World<S> {
         ensures all { OnOk result (K.written sink.new ≡ append_known (K.written sink.old) (events_text reporter.history (round_by (step_by S.answering) self.old).events)) }
         ensures part { WrotePart (K.written sink.old) (K.written sink.new) (events_text reporter.history (round_by (step_by S.answering) self.old).events) }
         ensures fault { result ≡ Err Stop.WriteFault → Rose (K.faults sink.old) (K.faults sink.new) }
+        ensures told { K.faults sink.old < K.faults sink.new → result ≡ Err Stop.WriteFault }
         ensures later { K.faults sink.old ≤ K.faults sink.new }
     {
         let count = self.connections.len() as u32;
@@ -435,6 +443,7 @@ impl<S: Service> World<S> {
         ensures all { OnOk result (K.written sink.new ≡ append_known (K.written sink.old) (line_text_by (step_by S.answering) reporter.history self.old ScriptLine.Drain)) }
         ensures part { WrotePart (K.written sink.old) (K.written sink.new) (line_text_by (step_by S.answering) reporter.history self.old ScriptLine.Drain) }
         ensures fault { result ≡ Err Stop.WriteFault → Rose (K.faults sink.old) (K.faults sink.new) }
+        ensures told { K.faults sink.old < K.faults sink.new → result ≡ Err Stop.WriteFault }
         ensures later { K.faults sink.old ≤ K.faults sink.new }
     {
         let mut went = true;
@@ -457,6 +466,7 @@ impl<S: Service> World<S> {
         ensures all { OnOk result (K.written sink.new ≡ append_known (K.written sink.old) (line_text_by (step_by S.answering) reporter.history self.old line.now)) }
         ensures part { WrotePart (K.written sink.old) (K.written sink.new) (line_text_by (step_by S.answering) reporter.history self.old line.now) }
         ensures fault { result ≡ Err Stop.WriteFault → Rose (K.faults sink.old) (K.faults sink.new) }
+        ensures told { K.faults sink.old < K.faults sink.new → result ≡ Err Stop.WriteFault }
         ensures later { K.faults sink.old ≤ K.faults sink.new }
     {
         match line {

@@ -3,7 +3,7 @@ use Rattle.std.specs.Prelude.{nat_le, replicate}
 use Rattle.std.specs.Bool.{OnTrue}
 use Rattle.sei_code.specs.Kept.{Kept, extended}
 use Rattle.mc_model.specs.Packed.{words_for, pack}
-use Rattle.mc_model.proofs.PackLaws.{length_pack}
+use Rattle.mc_model.proofs.Public.{length_pack}
 use Rattle.sei_hand.proofs.FillLaws.{goes_in, length_extended, room_extended, extended_twice}
 use Rattle.sei_hand.proofs.fill.push_filled_up.Goals as goal
 

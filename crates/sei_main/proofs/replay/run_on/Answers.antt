@@ -6,6 +6,7 @@ use Rattle.sei_main.proofs.Fitting.{FitBehind, fit_next}
 use Rattle.sei_main.proofs.Running.{line_part, line_written, line_state, end_part, end_all, aborted_is}
 use Rattle.sei_main.specs.Serving.{step_by}
 use Rattle.sei_main.proofs.Stepping.{serving_steps}
+use Rattle.sei_main.proofs.NoFault.{still}
 use Rattle.sei_main.proofs.replay.run_on.Goals as goal
 
 pub returns-in_err-apply-clause-part : goal.returns-in_err-apply-clause-part
@@ -29,7 +30,7 @@ loop-line-preserved g c =
       written = line_written (step_by g.S.Service.answering) c.args.reporter.history _ _ _ c.args.server script (drop i script) (drop (i + 1) script) c.loop-line.world c.apply.new.self line front done.state c.loop-line.invariant.written done.all;
       state = line_state (step_by g.S.Service.answering) (drop i script) (drop (i + 1) script) c.loop-line.world c.apply.new.self line front done.state ∙ c.loop-line.invariant.state;
       fit = fit_next (step_by g.S.Service.answering) (serving_steps g.S.Service.answering) c.loop-line.world c.apply.new.self line (drop (i + 1) script) done.state (subst (λ (xs : List ScriptLine). FitBehind (length c.loop-line.world.seats) xs) front c.loop-line.invariant.fit);
-      later = omega (arith, c.loop-line.invariant.later, c.apply.ensures.later);
+      quiet = still _ _ _ _ c.in_ok-apply.was c.apply.ensures.later c.apply.ensures.told ∙ c.loop-line.invariant.quiet;
     }
 
 pub returns-in_err-write_closing-clause-part : goal.returns-in_err-write_closing-clause-part

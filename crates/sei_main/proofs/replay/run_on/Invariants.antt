@@ -12,5 +12,5 @@ invariant-loop-line g l = record {
   written : Written l.reporter.history (g.K.Sink.written l.fn.sink) (g.K.Sink.written l.sink) (later_events (step_by g.S.Service.answering) l.world (drop l.line-index l.script)) (later_events (step_by g.S.Service.answering) (start_of l.fn.server l.script).state l.script);
   state : later_state (step_by g.S.Service.answering) l.world (drop l.line-index l.script) ≡ later_state (step_by g.S.Service.answering) (start_of l.fn.server l.script).state l.script;
   fit : FitBehind (length l.world.seats) (drop l.line-index l.script);
-  later : g.K.Sink.faults l.fn.sink ≤ g.K.Sink.faults l.sink;
+  quiet : g.K.Sink.faults l.sink ≡ g.K.Sink.faults l.fn.sink;
 }

@@ -2,9 +2,10 @@ use Rattle.std.proofs.Common.{◌+◌, ◌++◌, ◌∙◌, ap, sym, subst, arit
 use Rattle.sei_script.specs.AbortLines.{end_text}
 use Rattle.std.specs.Io.KnownBytes.{append_known}
 use Rattle.sei_outside.specs.Bytes.{WrotePart}
-use Rattle.sei_outside.proofs.Parts.{wrote_both, wrote_part_of, wrote_last_of}
+use Rattle.sei_outside.proofs.Public.{wrote_both, wrote_part_of, wrote_last_of}
 use Rattle.sei_main.specs.Report.{seats_text, seat_text}
 use Rattle.sei_main.proofs.SeatTexts.{seats_split_then, seats_more, seats_all}
+use Rattle.sei_main.proofs.NoFault.{still}
 use Rattle.sei_main.proofs.report.write_closing.Goals as goal
 
 pub returns-in_err-write_seat-clause-part : goal.returns-in_err-write_seat-clause-part
@@ -23,7 +24,7 @@ loop-i-preserved g c =
     record {
       wrote = wrote_both _ _ _ (seats_text 0 (take i seats)) (seat_text i seat) c.loop-i.invariant.wrote c.in_ok-write_seat.ensures.all
           ∙ ap (append_known (g.K.Sink.written c.args.sink.now)) (sym (seats_more seats i seat (omega arith) c.index-connections-i.is));
-      later = omega (arith, c.loop-i.invariant.later, c.write_seat.ensures.later);
+      quiet = still _ _ _ _ c.in_ok-write_seat.was c.write_seat.ensures.later c.write_seat.ensures.told ∙ c.loop-i.invariant.quiet;
     }
 
 pub returns-clause-part : goal.returns-clause-part

@@ -7,5 +7,5 @@ use Rattle.sei_main.proofs.report.write_closing.Given as goal
 abbrev pub invariant-loop-i : goal.invariant-loop-i
 invariant-loop-i g l = record {
   wrote : g.K.Sink.written l.sink ≡ append_known (g.K.Sink.written l.fn.sink) (seats_text 0 (take l.i l.connections));
-  later : g.K.Sink.faults l.fn.sink ≤ g.K.Sink.faults l.sink;
+  quiet : g.K.Sink.faults l.sink ≡ g.K.Sink.faults l.fn.sink;
 }

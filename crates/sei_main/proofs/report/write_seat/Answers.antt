@@ -1,7 +1,7 @@
 use Rattle.std.proofs.Common.{◌≡◌, ◌∙◌, ap, subst, List, ℕ, length}
 use Rattle.std.specs.Io.KnownBytes.{append_known}
 use Rattle.sei_outside.specs.Bytes.{WrotePart}
-use Rattle.sei_outside.proofs.Parts.{wrote_first, wrote_last}
+use Rattle.sei_outside.proofs.Public.{wrote_first, wrote_last}
 use Rattle.sei_main.specs.Seats.{waiting}
 use Rattle.sei_script.specs.ReportLines.{took_text, left_text}
 use Rattle.sei_main.proofs.report.write_seat.Goals as goal

@@ -2,16 +2,16 @@ use Rattle.sei_traverse.proofs.PublicRuns.{run_within, run_on_way, run_isolated,
 use Rattle.sei_traverse.proofs.laws.runs_go_as_steps_go.Goals as goal
 
 pub returns-clause-within : goal.returns-clause-within
-returns-clause-within g c = λ told service input n x z t r begin is within. run_within g.K.Core.gives g.K.Core.counts told service input g.met.K.Core.lawful begin n x z t r is within
+returns-clause-within g c = λ told behavior input n x z t r begin is within. run_within g.K.Core.gives g.K.Core.counts told behavior input g.met.K.Core.lawful begin n x z t r is within
 
 pub returns-clause-on_way : goal.returns-clause-on_way
-returns-clause-on_way g c = λ told service input n x z t r e begin errand tells f h lends way.
-    run_on_way g.K.Core.gives g.K.Core.counts told service input g.met.K.Core.lawful e begin f h tells n x z t errand r lends way
+returns-clause-on_way g c = λ told behavior input n x z t r e begin errand tells f h lends way.
+    run_on_way g.K.Core.gives g.K.Core.counts told behavior input g.met.K.Core.lawful e begin f h tells n x z t errand r lends way
 
 pub returns-clause-isolated : goal.returns-clause-isolated
-returns-clause-isolated g c = λ told service input n x z t r e begin trusted tells f h lends facts few.
-    run_isolated g.K.Core.gives g.K.Core.counts told service input g.met.K.Core.lawful e begin f h tells n x z t trusted r lends facts few
+returns-clause-isolated g c = λ told behavior input n x z t r e begin trusted tells f h lends facts few.
+    run_isolated g.K.Core.gives g.K.Core.counts told behavior input g.met.K.Core.lawful e begin f h tells n x z t trusted r lends facts few
 
 pub returns-clause-wanted : goal.returns-clause-wanted
-returns-clause-wanted g c = λ told service input n x z t r e begin trusted tells f h lends facts few wants steps.
-    run_stepped g.K.Core.gives g.K.Core.counts told service input g.met.K.Core.lawful e begin f h tells wants n x z t trusted r lends facts few steps
+returns-clause-wanted g c = λ told behavior input n x z t r e begin trusted tells f h lends facts few wants steps.
+    run_stepped g.K.Core.gives g.K.Core.counts told behavior input g.met.K.Core.lawful e begin f h tells wants n x z t trusted r lends facts few steps

@@ -1,6 +1,6 @@
 use Rattle.std.proofs.Common.{◌≡◌, ◌+◌, ◌∙◌, ap, sym, subst, List, ℕ}
 use Rattle.sei_outside.specs.Bytes.{WrotePart}
-use Rattle.sei_outside.proofs.Parts.{wrote_nothing}
+use Rattle.sei_outside.proofs.Public.{wrote_nothing}
 use Rattle.mc_model.specs.Views.{placed_of}
 use Rattle.sei_main.specs.Answering.{asked}
 use Rattle.sei_main.specs.Becomes.{asking_of}

@@ -10,6 +10,7 @@ use Rattle.sei_main.specs.Becomes.{asking_of}
 use Rattle.sei_main.proofs.Asked.{call_at}
 use Rattle.sei_main.proofs.Calls.{few_calls}
 use Rattle.sei_main.proofs.CallsSoFar.{CallsSoFar, calls_start, call_more, call_part, stop_server, stop_answered, stop_all, call_is_there, none_of, unfinished, finished_is}
+use Rattle.sei_main.proofs.NoFault.{still}
 use Rattle.sei_main.proofs.world.state.answer_calls.Goals as goal
 use Rattle.sei_main.proofs.world.state.answer_calls.Goals.{in-Some+in_ok-answered+else-is_stopped, in_default}
 
@@ -21,7 +22,7 @@ loop-nth-init g c = record {
   at = c.cursor-cursor.ensures.at;
   place = c.cursor-cursor.ensures.first;
   end = c.calls-nth-end.ensures c.args.text.now c.requires.reading.of;
-  later = omega arith;
+  quiet = refl;
 }
 
 pub answer_call-requires-clause-call : goal.answer_call-requires-clause-call
@@ -86,7 +87,7 @@ loop-nth-preserved g c =
             at = w.in-Some.ensures.at;
             place = w.in-Some.ensures.next ∙ ap (λ n. n + 1) l.invariant.place;
             end = l.invariant.end;
-            later = rw w.sink-is (omega (arith, l.invariant.later, w.answer_call.ensures.later));
+            quiet = rw w.sink-is (still _ _ _ _ w.in_ok-answered.was w.answer_call.ensures.later w.answer_call.ensures.told ∙ l.invariant.quiet);
           }
       | in_default w ↦
           let none : c.next.result ≡ None = none_of c.next.result w.in_default.not-Some in

@@ -14,5 +14,5 @@ invariant-loop-nth g l = record {
   at : IsAt l.text l.request l.cursor;
   place : place_of l.cursor ≡ l.nth;
   end : l.nth-end ≡ length (calls_at l.text l.request);
-  later : g.K.Sink.faults l.fn.sink ≤ g.K.Sink.faults l.sink;
+  quiet : g.K.Sink.faults l.sink ≡ g.K.Sink.faults l.fn.sink;
 }

@@ -1,7 +1,7 @@
 use Rattle.std.proofs.Common.{◌≡◌, ◌∙◌, ap, subst, List, ℕ, Option}
 use Rattle.std.specs.Io.KnownBytes.{append_known}
 use Rattle.sei_outside.specs.Bytes.{WrotePart}
-use Rattle.sei_outside.proofs.Parts.{wrote_first}
+use Rattle.sei_outside.proofs.Public.{wrote_first}
 use Rattle.sei_script.specs.ReportLines.{message_text}
 use Rattle.sei_main.specs.Report.{entered_text, ended_text}
 use Rattle.sei_main.proofs.CallTexts.{second_part, third_part, third_all}

@@ -5,7 +5,7 @@ use Rattle.sei_pass.proofs.frame.Frame.render.Goals as goal
 
 pub returns-in-Done-clause-tree : goal.returns-in-Done-clause-tree
 returns-in-Done-clause-tree g c = λ words log notes.
-    let s = rendering c.args.answer (g.H.Handler.rendered c.args.hands.now) in
+    let s = rendering c.args.answer (g.H.Handler.behavior c.args.hands.now).rendered in
     let m = machine_at c.args.self.now words log notes in
     c.read_words.ensures.read s c.args.index m _ _
     (done_runs g.K.Core.gives s c.args.index m (s.rendered c.read_words.new.into.items) _ _ _

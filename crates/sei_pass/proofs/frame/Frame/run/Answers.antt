@@ -12,16 +12,16 @@ loop-made-init g c = record { made = refl; lent = refl; chain = λ s notes t b. 
 pub loop-made-preserved : goal.loop-made-preserved
 loop-made-preserved g c =
     let one : c.lead.new.self.made ≡ c.loop-made.self.made + 1 =
-    leads_count _ _ _ _ _ (c.in-On.ensures.led (plain c.args.table.now c.args.budget) no_notes refl (within _ _ _ _ c.loop-made.invariant.made c.loop-made-test.true refl)) in
+    leads_count _ _ _ _ _ (c.in-Some.ensures.led (plain c.args.table.now c.args.budget) no_notes refl (within _ _ _ _ c.loop-made.invariant.made c.loop-made-test.true refl)) in
     record {
       made = omega (arith, one);
       lent = c.lead.ensures.lent ∙ c.loop-made.invariant.lent;
-      chain = λ s notes t b. goes_on _ _ _ _ _ _ _ _ (c.loop-made.invariant.chain s notes t b) (c.in-On.ensures.led s notes t (within _ _ _ _ c.loop-made.invariant.made c.loop-made-test.true b));
+      chain = λ s notes t b. goes_on _ _ _ _ _ _ _ _ (c.loop-made.invariant.chain s notes t b) (c.in-Some.ensures.led s notes t (within _ _ _ _ c.loop-made.invariant.made c.loop-made-test.true b));
     }
 
-pub returns-in-Out-clause-ran : goal.returns-in-Out-clause-ran
-returns-in-Out-clause-ran g c = λ s notes t b.
-    leaves _ _ _ _ _ _ _ _ _ _ (c.loop-made.invariant.chain s notes t b) (c.in-Out.ensures.led s notes t (within _ _ _ _ c.loop-made.invariant.made c.loop-made-test.true b))
+pub returns-in-None-clause-ran : goal.returns-in-None-clause-ran
+returns-in-None-clause-ran g c = λ s notes t b.
+    leaves _ _ _ _ _ _ _ _ _ _ (c.loop-made.invariant.chain s notes t b) (c.in-None.ensures.led s notes t (within _ _ _ _ c.loop-made.invariant.made c.loop-made-test.true b))
 
 pub returns-clause-ran : goal.returns-clause-ran
 returns-clause-ran g c = λ s notes t b. ends _ _ _ _ _ _ _ (c.loop-made.invariant.chain s notes t b) c.loop-made.invariant.made

@@ -1,6 +1,5 @@
 use Rattle.std.proofs.Common.{◌≡◌, ℕ, ◌∙◌, ap, sym, arith, true, Bool, rules}
 use Rattle.sei_traverse.specs.Running.{on, left_at}
-use Rattle.sei_traverse.specs.Service.{service_of}
 use Rattle.sei_traverse.specs.State.{TraversalState, is_running}
 use Rattle.sei_traverse.proofs.Lift.{run_counted}
 use Rattle.sei_traverse.proofs.traversal.Traversal.run_on.Goals as goal
@@ -17,7 +16,7 @@ returns g c =
     let begun : Bool → TraversalState = λ b. record { walk = c.self.inside.walk; space = space; steps = c.self.inside.steps; running = b } in
     let goes : c.eq-self-inside.result ≡ is_running many.turned.state = search rules in
     record {
-      run = run_counted g.K.Core.gives g.K.Core.counts (g.C.Clock.told c.args.clock.now) (service_of (g.H.Handler.statements c.args.hands.now) (g.H.Handler.call_count c.args.hands.now) (g.H.Handler.parsed c.args.hands.now) (g.H.Handler.rendered c.args.hands.now)) c.args.input.now many.before
+      run = run_counted g.K.Core.gives g.K.Core.counts (g.C.Clock.told c.args.clock.now) (g.H.Handler.behavior c.args.hands.now) c.args.input.now many.before
           (on (begun true) old c.args.core.now) (on c.args.self.now old c.args.core.now) (on (left_at walk space c.self.inside.steps many) left c.run-many.new.core) (on (at_end c.eq-self-inside.result) left c.run-many.new.core) many.turned
           (ap (λ (t : TraversalState). on t old c.args.core.now) (ap begun (sym (ap (λ (t : TraversalState). t.running) c.self.view_is ∙ c.requires.running)) ∙ c.self.view_is))
           (ap (λ (t : TraversalState). on t left c.run-many.new.core) (ap at_steps (omega (arith, c.saturating_add.ensures, c.saturating_add-self-inside.ensures)) ∙ ap at_end (sym goes)))

@@ -1,11 +1,11 @@
 use Rattle.sei_words.specs.Loan.{words_of, bucket_of}
-use Rattle.sei_traverse.specs.Service.{service_of, given_of}
+use Rattle.sei_traverse.specs.Given.{given_of}
 use Rattle.sei_traverse.proofs.TurnLaws.{once_runs}
 use Rattle.sei_traverse.proofs.walk.Walk.once.Goals as goal
 
 pub returns-clause-once : goal.returns-clause-once
 returns-clause-once g c =
-    let given = given_of (service_of (g.H.Handler.statements c.args.hands.now) (g.H.Handler.call_count c.args.hands.now) (g.H.Handler.parsed c.args.hands.now) (g.H.Handler.rendered c.args.hands.now)) c.args.input.now c.args.space.now (bucket_of (g.L.Lent.loan c.args.lent.now)) in
+    let given = given_of (g.H.Handler.behavior c.args.hands.now) c.args.input.now c.args.space.now (bucket_of (g.L.Lent.loan c.args.lent.now)) in
     let words = words_of (g.L.Lent.loan c.args.lent.now) in
     let told = g.C.Clock.told c.args.clock.now in
     let left = words_of (g.L.Lent.loan c.act-ending.new.lent) in

@@ -1,6 +1,5 @@
 use Rattle.std.proofs.Common.{refl, arith}
 use Rattle.sei_traverse.specs.Running.{on, begun_at, left_at}
-use Rattle.sei_traverse.specs.Service.{service_of}
 use Rattle.sei_traverse.proofs.Making.{makes_one}
 use Rattle.sei_traverse.proofs.walk.Walk.run_one.Goals as goal
 
@@ -10,8 +9,8 @@ returns-clause-run g c = λ steps small.
     record {
       last = x;
       chain = refl;
-      makes = makes_one g.K.Core.gives g.K.Core.counts g.met.K.Core.lawful (g.C.Clock.told c.args.clock.now) (service_of (g.H.Handler.statements c.args.hands.now) (g.H.Handler.call_count c.args.hands.now) (g.H.Handler.parsed c.args.hands.now) (g.H.Handler.rendered c.args.hands.now)) c.args.input.now
-          x (on (left_at c.step-state.new.self c.args.space.now steps (record { before = 0; turned = record { want = c.step-state.new.self.want; state = c.step-state.result } })) (g.L.Lent.loan c.step-state.new.lent) c.step-state.new.core)
-          (record { want = c.step-state.new.self.want; state = c.step-state.result }) c.step-state.ensures.turned refl c.step-state.ensures.lent refl (omega arith) refl
+      makes = makes_one g.K.Core.gives g.K.Core.counts g.met.K.Core.lawful (g.C.Clock.told c.args.clock.now) (g.H.Handler.behavior c.args.hands.now) c.args.input.now
+          x (on (left_at c.step_alone-state.new.self c.args.space.now steps (record { before = 0; turned = record { want = c.step_alone-state.new.self.want; state = c.step_alone-state.result } })) (g.L.Lent.loan c.step_alone-state.new.lent) c.step_alone-state.new.core)
+          (record { want = c.step_alone-state.new.self.want; state = c.step_alone-state.result }) c.step_alone-state.ensures.turned refl c.step_alone-state.ensures.lent refl (omega arith) refl
           (record { walk = c.requires.walk; space = c.requires.space }) c.requires.room;
     }

@@ -1,22 +1,22 @@
 use Rattle.std.proofs.Common.{refl}
 use Rattle.sei_traverse.specs.declared.walk.Ending.TheVariants.{Leads, Refuses, Aborts}
 use Rattle.sei_words.specs.Loan.{words_of, bucket_of}
-use Rattle.sei_traverse.specs.Service.{service_of, given_of}
+use Rattle.sei_traverse.specs.Given.{given_of}
 use Rattle.sei_traverse.proofs.TurnLaws.{twice_runs, once_on, still}
 use Rattle.sei_traverse.proofs.walk.Walk.twice.Goals as goal
 
 pub returns-in-Leads-clause-twice : goal.returns-in-Leads-clause-twice
 returns-in-Leads-clause-twice g c =
-    let given = given_of (service_of (g.H.Handler.statements c.args.hands.now) (g.H.Handler.call_count c.args.hands.now) (g.H.Handler.parsed c.args.hands.now) (g.H.Handler.rendered c.args.hands.now)) c.args.input.now c.args.space.now (bucket_of (g.L.Lent.loan c.args.lent.now)) in
+    let given = given_of (g.H.Handler.behavior c.args.hands.now) c.args.input.now c.args.space.now (bucket_of (g.L.Lent.loan c.args.lent.now)) in
     let words = words_of (g.L.Lent.loan c.args.lent.now) in
     let told = g.C.Clock.told c.args.clock.now in
     let left = words_of (g.L.Lent.loan c.act.new.lent) in
     twice_runs g.K.Core.gives told given c.args.self.now words c.act.new.self left (Leads _) _ c.act.new.core _ _ c.in-Leads.ensures.act
-    (once_on g.K.Core.gives told given.service c.args.input.now c.args.space.now (g.L.Lent.loan c.act.new.lent) (g.L.Lent.loan c.args.lent.now) c.act.new.self left _ _ _ c.act.ensures.lent c.once.ensures.once)
+    (once_on g.K.Core.gives told given.behavior c.args.input.now c.args.space.now (g.L.Lent.loan c.act.new.lent) (g.L.Lent.loan c.args.lent.now) c.act.new.self left _ _ _ c.act.ensures.lent c.once.ensures.once)
 
 pub returns-in-Refuses-clause-twice : goal.returns-in-Refuses-clause-twice
 returns-in-Refuses-clause-twice g c =
-    let given = given_of (service_of (g.H.Handler.statements c.args.hands.now) (g.H.Handler.call_count c.args.hands.now) (g.H.Handler.parsed c.args.hands.now) (g.H.Handler.rendered c.args.hands.now)) c.args.input.now c.args.space.now (bucket_of (g.L.Lent.loan c.args.lent.now)) in
+    let given = given_of (g.H.Handler.behavior c.args.hands.now) c.args.input.now c.args.space.now (bucket_of (g.L.Lent.loan c.args.lent.now)) in
     let words = words_of (g.L.Lent.loan c.args.lent.now) in
     let told = g.C.Clock.told c.args.clock.now in
     let left = words_of (g.L.Lent.loan c.act.new.lent) in
@@ -25,7 +25,7 @@ returns-in-Refuses-clause-twice g c =
 
 pub returns-in-Aborts-clause-twice : goal.returns-in-Aborts-clause-twice
 returns-in-Aborts-clause-twice g c =
-    let given = given_of (service_of (g.H.Handler.statements c.args.hands.now) (g.H.Handler.call_count c.args.hands.now) (g.H.Handler.parsed c.args.hands.now) (g.H.Handler.rendered c.args.hands.now)) c.args.input.now c.args.space.now (bucket_of (g.L.Lent.loan c.args.lent.now)) in
+    let given = given_of (g.H.Handler.behavior c.args.hands.now) c.args.input.now c.args.space.now (bucket_of (g.L.Lent.loan c.args.lent.now)) in
     let words = words_of (g.L.Lent.loan c.args.lent.now) in
     let told = g.C.Clock.told c.args.clock.now in
     let left = words_of (g.L.Lent.loan c.act.new.lent) in

@@ -5,6 +5,7 @@ use Rattle.sei_main.proofs.Rounds.{drain_smaller, drained_if, round_from_length}
 use Rattle.sei_main.proofs.Looping.{drain_part, drain_written, drain_state, was_going}
 use Rattle.sei_main.specs.Serving.{step_by}
 use Rattle.sei_main.proofs.Stepping.{serving_steps}
+use Rattle.sei_main.proofs.NoFault.{still}
 use Rattle.sei_main.proofs.world.state.World.drain.Goals as goal
 
 pub returns-in_err-went-clause-part : goal.returns-in_err-went-clause-part
@@ -29,5 +30,5 @@ loop-went-preserved g c =
       written = drain_written (step_by g.S.Service.answering) (serving_steps g.S.Service.answering) c.args.reporter.history _ _ _ l.self c.round.new.self c.in_ok-went.went whole b (was_going (step_by g.S.Service.answering) (serving_steps g.S.Service.answering) c.args.reporter.history _ _ l.self l.went whole c.loop-went-test.true l.invariant.written) c.in_ok-went.ensures.all;
       state = drain_state (step_by g.S.Service.answering) (serving_steps g.S.Service.answering) l.self c.round.new.self c.in_ok-went.went b ∙ ap (λ (w : Bool). (drained_if (step_by g.S.Service.answering) (serving_steps g.S.Service.answering) w l.self).state) (sym c.loop-went-test.true) ∙ l.invariant.state;
       few = rw (ap (λ (s : StateOf _). length s.seats) b.state ∙ round_from_length (step_by g.S.Service.answering) (serving_steps g.S.Service.answering) (length l.self.seats) 0 l.self) l.invariant.few;
-      later = omega (arith, l.invariant.later, c.round.ensures.later);
+      quiet = still _ _ _ _ c.in_ok-went.was c.round.ensures.later c.round.ensures.told ∙ l.invariant.quiet;
     }

@@ -13,7 +13,7 @@ invariant-loop-went g l = record {
   written : Written l.reporter.history (g.K.Sink.written l.fn.sink) (g.K.Sink.written l.sink) (drained_if (step_by g.S.Service.answering) (serving_steps g.S.Service.answering) l.went l.self).events (drained_by (step_by g.S.Service.answering) l.fn.self).events;
   state : (drained_if (step_by g.S.Service.answering) (serving_steps g.S.Service.answering) l.went l.self).state ≡ (drained_by (step_by g.S.Service.answering) l.fn.self).state;
   few : length l.self.seats < 2 ^ 32;
-  later : g.K.Sink.faults l.fn.sink ≤ g.K.Sink.faults l.sink;
+  quiet : g.K.Sink.faults l.sink ≡ g.K.Sink.faults l.fn.sink;
 }
 
 abbrev pub decreases-loop-went : goal.decreases-loop-went

@@ -12,5 +12,5 @@ invariant-loop-c g l = record {
   state : (round_from_by (step_by g.S.Service.answering) (l.count - l.c) l.c l.self).state ≡ (round_by (step_by g.S.Service.answering) l.fn.self).state;
   went : (l.went || (round_from_by (step_by g.S.Service.answering) (l.count - l.c) l.c l.self).went) ≡ (round_by (step_by g.S.Service.answering) l.fn.self).went;
   count : l.count ≡ length l.self.seats;
-  later : g.K.Sink.faults l.fn.sink ≤ g.K.Sink.faults l.sink;
+  quiet : g.K.Sink.faults l.sink ≡ g.K.Sink.faults l.fn.sink;
 }

@@ -1,33 +1,22 @@
--- What a traversal is given of its handler, and with each step.
+-- What a traversal is given with each step.
 use Rattle.std.specs.Prelude.{◌≡◌, ◌⊎◌, ℕ, Bool, false, nat_lt, List, Option, Some, None}
 use Rattle.sei_code.specs.Coded.{read_of}
 use Rattle.sei_pass.specs.declared.spaces.PassSpace.{PassSpace}
-use Rattle.sei_stmt.specs.declared.stmt.Stmt.{Stmt}
-use Rattle.sei_stmt.specs.Handling.{Parsed, parsed_bucket}
+use Rattle.sei_stmt.specs.Handling.{Behavior, Parsed, parsed_bucket}
 use Rattle.sei_stmt.specs.Machine.{Setting}
 use Rattle.sei_pass.specs.declared.given.Sealed.{Sealed}
 use Rattle.sei_pass.specs.declared.given.Which.{Which}
 use Rattle.sei_pass.specs.Setting.{is_intact, sealed_call, setting_of}
 
--- a handler: its table, how many calls an input has, each call of an input, and the bytes that output words stand for
-pub record Service : Type 0 where
-  pub statements : List Stmt
-  pub calls : List ℕ → Option ℕ
-  pub parsed : List ℕ → ℕ → Option Parsed
-  pub rendered : List ℕ → Option (List ℕ)
-
-abbrev pub service_of : List Stmt → (List ℕ → Option ℕ) → (List ℕ → ℕ → Option Parsed) → (List ℕ → Option (List ℕ)) → Service
-service_of statements calls parsed rendered = record { statements = statements; calls = calls; parsed = parsed; rendered = rendered }
-
--- what a step is given: the handler, the input, the space, and the number of the bucket that is lent
+-- what a step is given: what the handler does, the input, the space, and the number of the bucket that is lent
 pub record Given : Type 0 where
-  pub service : Service
+  pub behavior : Behavior
   pub input : List ℕ
   pub space : PassSpace
   pub lent : Option ℕ
 
-abbrev pub given_of : Service → List ℕ → PassSpace → Option ℕ → Given
-given_of service input space lent = record { service = service; input = input; space = space; lent = lent }
+abbrev pub given_of : Behavior → List ℕ → PassSpace → Option ℕ → Given
+given_of behavior input space lent = record { behavior = behavior; input = input; space = space; lent = lent }
 
 -- there are calls, and the index reads and is below their number
 abbrev pub has_call : Option ℕ → Option ℕ → Bool
@@ -37,14 +26,14 @@ has_call (Some calls) (Some nth) = nat_lt nth calls
 
 -- the input is one whole request that has the sealed call
 abbrev pub has_sealed_call : Given → Sealed → Bool
-has_sealed_call g sealed = has_call (g.service.calls g.input) (read_of sealed.nth)
+has_sealed_call g sealed = has_call (g.behavior.calls g.input) (read_of sealed.nth)
 
 -- the input does not pass the tests of Guard: it is not the sealed one, or not one whole request with the sealed call
 abbrev pub FailsGuard : Given → Sealed → Type 0
 FailsGuard g sealed = (is_intact sealed g.input ≡ false) ⊎ (has_sealed_call g sealed ≡ false)
 
 abbrev pub call_of : Given → Sealed → Option Parsed
-call_of g sealed = sealed_call (g.service.parsed g.input) sealed.nth
+call_of g sealed = sealed_call (g.behavior.parsed g.input) sealed.nth
 
 abbrev pub bucket_or_zero : Option ℕ → ℕ
 bucket_or_zero None = 0
@@ -56,4 +45,4 @@ bucket_of_call g sealed = bucket_or_zero (parsed_bucket (call_of g sealed))
 
 -- the setting of a pass, where the clock answers this
 abbrev pub setting_in : Given → Which → Sealed → ℕ → Setting
-setting_in g which sealed now = setting_of which g.service.statements g.service.parsed g.service.rendered g.input sealed g.lent g.space now
+setting_in g which sealed now = setting_of which g.behavior g.input sealed g.lent g.space now

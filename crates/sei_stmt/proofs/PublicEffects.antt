@@ -3,10 +3,10 @@ use Rattle.std.proofs.Common.{◌≡◌, ◌≢◌, ℕ, ◌+◌, ◌≤◌, ◌
 use Rattle.std.proofs.lemmas.Bool.{eqb-true}
 use Rattle.std.specs.Prelude.{◌==◌, if◌then◌else◌}
 use Rattle.sei_code.specs.Kept.{has_room, pushed}
-use Rattle.sei_fault.proofs.Runs.{always_honest}
-use Rattle.sei_fault.proofs.StruckRuns.{always_struck}
+use Rattle.sei_fault.proofs.Public.{always_honest, always_struck}
 use Rattle.sei_fault.specs.StruckRuns.{StruckRun}
-use Rattle.sei_fault.specs.Tree.{Tree, Always, honest, questions}
+use Rattle.sei_fault.specs.Tree.{Tree, Always, honest}
+use Rattle.sei_fault.specs.Weights.{weighed}
 use Rattle.sei_log.specs.Changes.{change_of}
 use Rattle.sei_stmt.specs.declared.stmt.Stmt.{Stmt}
 use Rattle.sei_stmt.specs.Machine.{Machine, Setting, After, register, one_made, stored, at_outcome, ends}
@@ -29,7 +29,7 @@ pub data StruckEffect (g : Setting) (i : ℕ) (m : Machine) (y : After) (n : ℕ
   Plain : Effect m y.machine → StruckEffect g i m y n
   Wrong : (a word was v : ℕ) → slice_get m.words a ≡ Some word → has_room m.log ≡ true → y ≡ at_outcome (stored (one_made m) a (change_of a was v) v) (Next (i + 1)) →
       ((word ≡ v) × (honest (step_tree g i m) ≡ at_outcome (one_made m) (Next (i + 1)))) ⊎ (honest (step_tree g i m) ≡ at_outcome (stored (one_made m) a (change_of a word v) v) (Next (i + 1))) →
-      questions (step_tree g i m) ≤ n → StruckEffect g i m y n
+      weighed (step_tree g i m) ≤ n → StruckEffect g i m y n
 
 -- A statement that is no store leaves words and log, whatever is answered.
 
@@ -92,7 +92,7 @@ honest_effect g i m = honest_one m (honest (step_tree g i m)).machine (keeps_hon
 
 -- What one strike may do.
 
--- of a statement that ends honestly at z and asks q questions then, from the machine that counts it
+-- of a statement that ends honestly at z and whose questions weigh q then, from the machine that counts it
 data Struck (i : ℕ) (m : Machine) (z : After) (q : ℕ) (y : After) (n : ℕ) : Type 0 where
   Mild : Effect m y.machine → Struck i m z q y n
   Misread : (a word was v : ℕ) → slice_get m.words a ≡ Some word → has_room m.log ≡ true → y ≡ at_outcome (stored m a (change_of a was v) v) (Next (i + 1)) →
@@ -124,8 +124,8 @@ tested same room i m a was v = if same then ends m (Next (i + 1)) else store_if 
 -- the old word is misread: same is what was tested of the word that stands there, skip of the misread one
 misread_at : (i : ℕ) (m : Machine) (a word was v : ℕ) (same skip room : Bool) (y : After) (q n : ℕ) → (same ≡ true → word ≡ v) → slice_get m.words a ≡ Some word → has_room m.log ≡ room →
     y ≡ honest (tested skip room i m a was v) →
-    q ≡ 1 + (1 + questions (tested same room i m a word v)) →
-    n ≡ 1 + (1 + questions (tested skip room i m a was v)) →
+    q ≡ 1 + (1 + weighed (tested same room i m a word v)) →
+    n ≡ 1 + (1 + weighed (tested skip room i m a was v)) →
     Struck i m (honest (tested same room i m a word v)) q y n
 misread_at i m a word was v same true room y q n h e r p eq en = mild i m _ q y _ n p (Untouched refl refl)
 misread_at i m a word was v same false false y q n h e r p eq en = mild i m _ q y _ n p (Untouched refl refl)
@@ -145,7 +145,7 @@ test_struck i m a was v true y n e s = absurd s
 test_struck i m a was v false y n e s = room_struck i m a was v (has_room m.log) y n e s
 
 word_struck : (i : ℕ) (m : Machine) (from a : ℕ) (o : Option ℕ) (y : After) (n : ℕ) → slice_get m.words a ≡ o →
-    StruckRun (store_word i m from a o) y n → Struck i m (honest (store_word i m from a o)) (questions (store_word i m from a o)) y n
+    StruckRun (store_word i m from a o) y n → Struck i m (honest (store_word i m from a o)) (weighed (store_word i m from a o)) y n
 word_struck i m from a None y n e s = absurd s
 word_struck i m from a (Some word) y n e (inl h) = mild i m _ _ y _ n h.end (tested_effect i m a word h.answer (word == h.answer) e)
 word_struck i m from a (Some word) y n e (inr (k, f, inl h)) =
@@ -155,16 +155,16 @@ word_struck i m from a (Some word) y n e (inr (k, f, inr (j, p, inl h))) = mild 
 word_struck i m from a (Some word) y n e (inr (k, f, inr (j, p, inr (l, q, s)))) = Mild (test_struck i m a word (register m from) (word == register m from) y l e s)
 
 store_struck : (i : ℕ) (m : Machine) (address from : ℕ) (y : After) (n : ℕ) →
-    StruckRun (store_tree i m address from) y n → Struck i m (honest (store_tree i m address from)) (questions (store_tree i m address from)) y n
+    StruckRun (store_tree i m address from) y n → Struck i m (honest (store_tree i m address from)) (weighed (store_tree i m address from)) y n
 store_struck i m address from y n (inl h) =
     mild i m _ _ y _ n h.end (honest_one m (honest (store_word i m from h.answer (slice_get m.words h.answer))).machine (word_keeps i m from h.answer (slice_get m.words h.answer) refl))
 store_struck i m address from y n (inr (k, e, s)) = one_more i m _ _ y k n e (word_struck i m from (register m address) (slice_get m.words (register m address)) y k refl s)
 
 statement_struck : (g : Setting) (i : ℕ) (m : Machine) (s : Stmt) (y : After) (n : ℕ) →
-    StruckRun (statement_tree g i m s) y n → Struck i m (honest (statement_tree g i m s)) (questions (statement_tree g i m s)) y n
+    StruckRun (statement_tree g i m s) y n → Struck i m (honest (statement_tree g i m s)) (weighed (statement_tree g i m s)) y n
 statement_struck g i m s y n = elim (store_or_not s) [
   | inl (address, from, e) ↦
-      subst (λ (x : Stmt). StruckRun (statement_tree g i m x) y n → Struck i m (honest (statement_tree g i m x)) (questions (statement_tree g i m x)) y n) (sym e)
+      subst (λ (x : Stmt). StruckRun (statement_tree g i m x) y n → Struck i m (honest (statement_tree g i m x)) (weighed (statement_tree g i m x)) y n) (sym e)
       (store_struck i m address from y n)
   | inr other ↦ λ r. let q = always_struck (λ x. Quiet m x.machine) (statement_tree g i m s) y n (quiet g i m s other) r in Mild (Untouched q.0 q.1)
 ]
@@ -173,11 +173,11 @@ made_effect : (m y : Machine) → Effect (one_made m) y → Effect m y
 made_effect m y (Untouched p q) = Untouched p q
 made_effect m y (Wrote a was v w e p q) = Wrote a was v w e p q
 
-made_struck : (g : Setting) (i : ℕ) (m : Machine) (y : After) (n : ℕ) → Struck i (one_made m) (honest (step_tree g i m)) (questions (step_tree g i m)) y n → StruckEffect g i m y n
+made_struck : (g : Setting) (i : ℕ) (m : Machine) (y : After) (n : ℕ) → Struck i (one_made m) (honest (step_tree g i m)) (weighed (step_tree g i m)) y n → StruckEffect g i m y n
 made_struck g i m y n (Mild f) = Plain (made_effect m y.machine f)
 made_struck g i m y n (Misread a word was v e r p h l) = Wrong a word was v e r p h l
 
 pub struck_effect : (g : Setting) (i : ℕ) (m : Machine) (y : After) (n : ℕ) → StruckRun (step_tree g i m) y n → StruckEffect g i m y n
 struck_effect g i m y n s =
     made_struck g i m y n
-    (by_statement g i m (λ t. StruckRun t y n → Struck i (one_made m) (honest t) (questions t) y n) (λ cause r. absurd r) (λ st e b r. statement_struck g i (one_made m) st y n r) s)
+    (by_statement g i m (λ t. StruckRun t y n → Struck i (one_made m) (honest t) (weighed t) y n) (λ cause r. absurd r) (λ st e b r. statement_struck g i (one_made m) st y n r) s)

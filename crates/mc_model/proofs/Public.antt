@@ -1,0 +1,2 @@
+-- The lemmas that other crates use.
+pub use Rattle.mc_model.proofs.PackLaws.{length_pack, unpack_before}
