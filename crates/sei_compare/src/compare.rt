@@ -3,7 +3,7 @@ ghost use Rattle.std.specs.Prelude.{◌≡◌, ◌<◌, length, slice_get};
 ghost use Rattle.std.specs.Option.{option_copied};
 ghost use Rattle.sei_fault.specs.Counts.{Answered};
 ghost use Rattle.sei_fault.specs.Tree.{Runs};
-ghost use Rattle.sei_words.specs.Loan.{words_of};
+ghost use Rattle.sei_words.specs.LentBucket.{words_of};
 ghost use Rattle.sei_compare.specs.Comparing.{same_change, entry_tree, word_tree, word_at, word_is, word_outcome, same_code, same_reply, codes_tree, is_message, wire_tree};
 
 use sei_code::{Mode, message_code};
@@ -59,8 +59,8 @@ pub fn word_on<L: Lent, K: Core>(
     core: &mut K,
 ) -> Result<bool, AbortCause>
     requires { i < length log.now.items }
-    ensures compared { Runs K.gives (word_at (words_of (L.loan lent.now)) (slice_get log.now.items i)) core.old core.new result }
-    ensures honest { (K.counts core.new).struck ≡ (K.counts core.old).struck → result ≡ word_outcome (words_of (L.loan lent.now)) (slice_get log.now.items i) }
+    ensures compared { Runs K.gives (word_at (words_of (L.lent_bucket lent.now)) (slice_get log.now.items i)) core.old core.new result }
+    ensures honest { (K.counts core.new).struck ≡ (K.counts core.old).struck → result ≡ word_outcome (words_of (L.lent_bucket lent.now)) (slice_get log.now.items i) }
 {
     match log.get(i) {
         None => unreachable!(),
@@ -69,8 +69,8 @@ pub fn word_on<L: Lent, K: Core>(
 }
 
 fn change_word<L: Lent, K: Core>(change: Change, lent: &L, core: &mut K) -> Result<bool, AbortCause>
-    ensures compared { Runs K.gives (word_tree (words_of (L.loan lent.now)) change) core.old core.new result }
-    ensures honest { (K.counts core.new).struck ≡ (K.counts core.old).struck → result ≡ word_is change (slice_get (words_of (L.loan lent.now)) change.address) }
+    ensures compared { Runs K.gives (word_tree (words_of (L.lent_bucket lent.now)) change) core.old core.new result }
+    ensures honest { (K.counts core.new).struck ≡ (K.counts core.old).struck → result ≡ word_is change (slice_get (words_of (L.lent_bucket lent.now)) change.address) }
 {
     match lent.get(change.address) {
         None => Err(AbortCause::Range {

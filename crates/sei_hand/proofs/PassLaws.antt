@@ -4,7 +4,7 @@ use Rattle.sei_code.specs.Coded.{read_of}
 use Rattle.sei_code.specs.declared.coded.Coded.{Coded}
 use Rattle.mc_model.specs.declared.geometry.Geometry.{Geometry}
 use Rattle.mc_model.specs.Server.{IsValid}
-use Rattle.sei_words.specs.Loan.{Place, place_of}
+use Rattle.sei_words.specs.LentBucket.{Place, place_of}
 use Rattle.sei_words.specs.Words.{BucketWords}
 use Rattle.sei_stmt.specs.Handling.{parsed_words}
 use Rattle.sei_pass.specs.Setting.{sealed_call, call_at}

@@ -20,25 +20,25 @@ use Rattle.sei_hand.specs.Requests.{parsed_of}
 use Rattle.sei_hand.specs.Served.{Stands}
 use Rattle.sei_hand.proofs.PublicHands.{call_is_asked}
 use Rattle.sei_hand.proofs.PublicHands.{hands_serve}
-use Rattle.sei_traverse.specs.declared.walk.Walk.{Walk}
+use Rattle.sei_traverse.specs.declared.workspace.Workspace.{Workspace}
 use Rattle.sei_traverse.specs.Comes.{renoted}
-use Rattle.sei_traverse.specs.Errand.{Errand, first_start}
+use Rattle.sei_traverse.specs.CallContext.{CallContext, first_start}
 use Rattle.sei_traverse.specs.Phases.{reply_of}
 use Rattle.sei_traverse.specs.Struck.{IsHonestResult}
 use Rattle.sei_traverse.specs.Trusted.{PassesGuard, second_setting}
-use Rattle.sei_main.specs.Errands.{errand_for}
+use Rattle.sei_main.specs.CallContexts.{context_for}
 use Rattle.sei_main.proofs.TableLaws.{IsGood}
 
 -- the words stand for the bucket behind the call, the reply is its reply, and its time is noted
-pub record IsAnswer (g : Geometry) (now : ℕ) (p : Placed) (b : Bucket) (words : List ℕ) (w : Walk) : Type 0 where
+pub record IsAnswer (g : Geometry) (now : ℕ) (p : Placed) (b : Bucket) (words : List ℕ) (w : Workspace) : Type 0 where
   pub stands : Stands g words (answer (room_of g) b now p.call).0
   pub reply : reply_of w ≡ (answer (room_of g) b now p.call).1
   pub noted : w.notes.now ≡ Some (seal now)
 
 module _ (g : Geometry) (valid : IsValid g) (text : List ℕ) (now : ℕ) (small : now < 2 ^ 64) (sealed : Sealed) (p : Placed) (good : IsGood g p)
     (taken : List ℕ) (b : Bucket) (held : Stands g taken b) where
-  abbrev e : Errand
-  e = errand_for g text sealed p taken now
+  abbrev e : CallContext
+  e = context_for g text sealed p taken now
 
   -- the second pass by notes of this time
   serves : PassesGuard e → (slot : ℕ) →
@@ -48,7 +48,7 @@ module _ (g : Geometry) (valid : IsValid g) (text : List ℕ) (now : ℕ) (small
       (parsed_of g p) (record { intact = fit.intact; parsed = fit.called; lent = refl }) p.call (call_is_asked g p good.read good.bytes) now small taken b held (notes_of now slot) (ByNotes refl slot refl)
 
   -- by an honest run on the words that were taken
-  pub is_answer : (w : Walk) (words : List ℕ) (asked : ℕ) → IsHonestResult e w words asked → IsAnswer g now p b words w
+  pub is_answer : (w : Workspace) (words : List ℕ) (asked : ℕ) → IsHonestResult e w words asked → IsAnswer g now p b words w
   is_answer w words asked a = by_end (serves a.aimed.fit a.slot)
     where
       time : (a.time ≡ now) × (w.notes.now ≡ Some (seal now))

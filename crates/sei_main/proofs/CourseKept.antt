@@ -7,7 +7,7 @@ use Rattle.mc_model.specs.Server.{IsValid, Server}
 use Rattle.sei_fault.specs.declared.plan.Planned.{Planned}
 use Rattle.sei_fault.specs.Script.{ScriptState, script_answer, script_next, script_counts}
 use Rattle.sei_fault.specs.Scripted.{scripted}
-use Rattle.sei_words.specs.Loan.{words_of, bucket_of}
+use Rattle.sei_words.specs.LentBucket.{words_of, bucket_of}
 use Rattle.sei_words.specs.Words.{BucketWords}
 use Rattle.sei_pass.specs.declared.given.Sealed.{Sealed}
 use Rattle.sei_stmt.specs.Handling.{Parsed, parsed_words}
@@ -20,23 +20,23 @@ use Rattle.sei_traverse.specs.declared.turned.Want.{Want}
 use Rattle.sei_traverse.specs.declared.turned.Want.TheVariants.{Nothing, Take, Enter, Give, Send}
 use Rattle.sei_traverse.specs.Bounds.{most_steps, StepsWithin, StepsAfter}
 use Rattle.sei_traverse.specs.Given.{given_of}
-use Rattle.sei_traverse.specs.State.{IsTraversal, begun_walk, one_more}
-use Rattle.sei_traverse.specs.Step.{Turn, turn_tree}
-use Rattle.sei_traverse.specs.Walks.{IsWalk}
-use Rattle.sei_traverse.proofs.Public.{facts_begin, steps_bounded, begun_within}
+use Rattle.sei_traverse.specs.State.{IsTraversal, begun_workspace, one_more}
+use Rattle.sei_traverse.specs.Step.{StepResult, traversal_step}
+use Rattle.sei_traverse.specs.Workspaces.{IsWorkspace}
+use Rattle.sei_traverse.proofs.Public.{invariant_begin, steps_bounded, begun_within}
 use Rattle.sei_hand.specs.Requests.{parsed_of, parsed_call}
 use Rattle.sei_hand.proofs.PublicHands.{length_input_words}
-use Rattle.sei_main.specs.Course.{Course, loan_in, course_on, course_if, course_from, course_begun, course_of, served_behind}
+use Rattle.sei_main.specs.Course.{Course, lent_in, course_on, course_if, course_from, course_begun, course_of, served_behind}
 use Rattle.sei_hand.specs.HandsBehavior.{hands_behavior}
 use Rattle.sei_main.specs.Tables.{AreServer}
-use Rattle.sei_main.proofs.CourseShape.{Shape, shape_on, tables, errand_at}
+use Rattle.sei_main.proofs.CourseShape.{Shape, shape_on, tables, context_at}
 use Rattle.sei_main.proofs.CourseShape.Shape.{Before}
 use Rattle.sei_main.proofs.CourseStep.{traversal, none_asked, kept, course_step, kept, stays_within}
 use Rattle.sei_main.proofs.HandsTrusted.{IsSealedCall}
 use Rattle.sei_main.proofs.ScriptedRuns.{one_falls, unplanned, unplanned_stays}
 use Rattle.sei_main.proofs.TableLaws.{IsGood}
 use Rattle.sei_main.proofs.Turns.{ended_stays}
-use Rattle.sei_traverse.proofs.PublicWalkKept.{FitsIn}
+use Rattle.sei_traverse.proofs.PublicWorkspaceKept.{FitsIn}
 
 one_more_is : (n : ℕ) → suc n < 2 ^ 64 → one_more n ≡ suc n
 one_more_is n small = omega (arith, small)
@@ -47,7 +47,7 @@ module _ (g : Geometry) (text : List ℕ) (now : ℕ) where
   unplanned_on : (c : Course) (asked : ℕ) → c.core ≡ unplanned asked → (n : ℕ) × ((course_on g text now c).core ≡ unplanned n)
   unfolding course_on
   unplanned_on c asked e =
-      let tree = turn_tree (given_of (hands_behavior g) text (pass_space g) (bucket_of (loan_in c.buckets c.lent))) now now c.walk (words_of (loan_in c.buckets c.lent)) in
+      let tree = traversal_step (given_of (hands_behavior g) text (pass_space g) (bucket_of (lent_in c.buckets c.lent))) now now c.workspace (words_of (lent_in c.buckets c.lent)) in
       let rest = unplanned_stays tree asked in
       (rest.0, ap (λ (s : ScriptState). (scripted script_answer script_next tree s).1) e ∙ rest.1)
 
@@ -62,7 +62,7 @@ module _ (g : Geometry) (text : List ℕ) (now : ℕ) where
       by_state rest Refused = rest c asked e
       by_state rest (Aborted abort) = rest c asked e
 
--- a walk that begins is laid out
+-- a workspace that begins is laid out
 begun_pass : (g : Geometry) → IsValid g → IsPass (new_pass (pass_space g))
 begun_pass g valid = record {
   valid = valid;
@@ -77,7 +77,7 @@ begun_pass g valid = record {
   input_fits = omega arith;
 }
 
-begun_laid_out : (g : Geometry) (sealed : Sealed) → IsValid g → IsWalk (begun_walk (pass_space g) sealed)
+begun_laid_out : (g : Geometry) (sealed : Sealed) → IsValid g → IsWorkspace (begun_workspace (pass_space g) sealed)
 begun_laid_out g sealed valid = record {
   first = begun_pass g valid;
   second = begun_pass g valid;
@@ -95,36 +95,36 @@ module _ (g : Geometry) (text : List ℕ) (now : ℕ) (buckets : List BucketWord
   -- what is known of a course behind so many steps
   pub record OnCourse (c : Course) (steps : ℕ) : Type 0 where
     pub shape : Shape g text now buckets s sealed p c steps
-    pub of_sealed : c.walk.sealed ≡ sealed
-    pub rooms : IsTraversal (traversal g c.walk steps)
-    pub within : StepsAfter (traversal g c.walk steps) none_asked (script_counts c.core) c.served.state
+    pub of_sealed : c.workspace.sealed ≡ sealed
+    pub rooms : IsTraversal (traversal g c.workspace steps)
+    pub within : StepsAfter (traversal g c.workspace steps) none_asked (script_counts c.core) c.served.state
 
-  sealed_on : (c : Course) → c.walk.sealed ≡ sealed → (course_on g text now c).walk.sealed ≡ sealed
+  sealed_on : (c : Course) → c.workspace.sealed ≡ sealed → (course_on g text now c).workspace.sealed ≡ sealed
   unfolding course_on
-  sealed_on c h = (kept g text now c.walk (loan_in c.buckets c.lent) c.core).sealed ∙ h
+  sealed_on c h = (kept g text now c.workspace (lent_in c.buckets c.lent) c.core).sealed ∙ h
 
   -- the input words of the sealed call go in
   fits_in : (o : Option Parsed) → ((x : Parsed) → o ≡ Some x → parsed_of g p ≡ x) → length (parsed_words o) ≤ input_room g
   fits_in None is = omega arith
   fits_in (Some x) is = subst (λ (y : Parsed). length y.words ≤ input_room g) (is x refl) (omega (arith, length_input_words g p.call good.read.key good.read.block))
 
-  rooms_on : (c : Course) (steps more : ℕ) → c.walk.sealed ≡ sealed → IsTraversal (traversal g c.walk steps) → IsTraversal (traversal g (course_on g text now c).walk more)
+  rooms_on : (c : Course) (steps more : ℕ) → c.workspace.sealed ≡ sealed → IsTraversal (traversal g c.workspace steps) → IsTraversal (traversal g (course_on g text now c).workspace more)
   unfolding course_on
   rooms_on c steps more same is =
-      let k = kept g text now c.walk (loan_in c.buckets c.lent) c.core in
+      let k = kept g text now c.workspace (lent_in c.buckets c.lent) c.core in
       record {
-        walk = k.walk is.walk is.space (subst (FitsIn (pass_space g) (parsed_call g text)) (sym same) (fits_in (sealed_call (parsed_call g text) sealed.nth) is_call));
+        workspace = k.workspace is.workspace is.space (subst (FitsIn (pass_space g) (parsed_call g text)) (sym same) (fits_in (sealed_call (parsed_call g text) sealed.nth) is_call));
         space = k.space ∙ is.space;
       }
 
-  within_on : (c : Course) (steps : ℕ) → IsTraversal (traversal g c.walk steps) → StepsWithin (traversal g c.walk steps) none_asked (script_counts c.core) →
-      StepsAfter (traversal g (course_on g text now c).walk (one_more steps)) none_asked (script_counts (course_on g text now c).core) (course_on g text now c).served.state
+  within_on : (c : Course) (steps : ℕ) → IsTraversal (traversal g c.workspace steps) → StepsWithin (traversal g c.workspace steps) none_asked (script_counts c.core) →
+      StepsAfter (traversal g (course_on g text now c).workspace (one_more steps)) none_asked (script_counts (course_on g text now c).core) (course_on g text now c).served.state
   unfolding course_on
-  within_on c steps is within = by (course_step g text now c.walk (loan_in c.buckets c.lent) c.core) (course_step g text now c.walk (loan_in c.buckets c.lent) c.core).0.walk.want
-      (stays_within g text now c.walk (loan_in c.buckets c.lent) c.core none_asked steps is within)
+  within_on c steps is within = by (course_step g text now c.workspace (lent_in c.buckets c.lent) c.core) (course_step g text now c.workspace (lent_in c.buckets c.lent) c.core).0.workspace.want
+      (stays_within g text now c.workspace (lent_in c.buckets c.lent) c.core none_asked steps is within)
     where
-      by : (x : Turn × ScriptState) (want : Want) → StepsAfter (traversal g x.0.walk (one_more steps)) none_asked (script_counts x.1) x.0.state →
-          StepsAfter (traversal g x.0.walk (one_more steps)) none_asked (script_counts x.1) (served_behind want x.0.walk c.served x.0.state).state
+      by : (x : StepResult × ScriptState) (want : Want) → StepsAfter (traversal g x.0.workspace (one_more steps)) none_asked (script_counts x.1) x.0.state →
+          StepsAfter (traversal g x.0.workspace (one_more steps)) none_asked (script_counts x.1) (served_behind want x.0.workspace c.served x.0.state).state
       by x Nothing h = h
       by x (Take b) h = h
       by x Enter h = h
@@ -136,7 +136,7 @@ module _ (g : Geometry) (text : List ℕ) (now : ℕ) (buckets : List BucketWord
     shape = shape_on g text now buckets s sealed p valid bytes small good is_call are c steps went h.shape;
     of_sealed = sealed_on c h.of_sealed;
     rooms = rooms_on c steps (one_more steps) h.of_sealed h.rooms;
-    within = within_on c steps h.rooms (subst (StepsAfter (traversal g c.walk steps) none_asked (script_counts c.core)) went h.within);
+    within = within_on c steps h.rooms (subst (StepsAfter (traversal g c.workspace steps) none_asked (script_counts c.core)) went h.within);
   })
 
   -- behind m steps more: where it still goes on, so many were made
@@ -182,10 +182,10 @@ module _ (g : Geometry) (text : List ℕ) (now : ℕ) (buckets : List BucketWord
       gate = omega arith;
       untouched = record { lent = refl; same = refl; entered = refl; message = refl };
       lends = λ went right. refl;
-      known = λ k lt. facts_begin (errand_at g text now buckets s sealed p k) none_asked;
+      known = λ k lt. invariant_begin (context_at g text now buckets s sealed p k) none_asked;
     });
     of_sealed = refl;
-    rooms = record { walk = begun_laid_out g sealed valid; space = refl };
+    rooms = record { workspace = begun_laid_out g sealed valid; space = refl };
     within = begun_within (pass_space g) sealed none_asked;
   }
 
@@ -204,6 +204,6 @@ module _ (g : Geometry) (text : List ℕ) (now : ℕ) (buckets : List BucketWord
   course_ends plan went =
       let b = whole plan in
       let c : Course = course_of g text now buckets sealed plan in
-      let within : StepsWithin (traversal g c.walk b.made) none_asked (script_counts c.core) = subst (StepsAfter (traversal g c.walk b.made) none_asked (script_counts c.core)) went b.on.within in
-      let bound : b.made ≤ most_steps (pass_space g) = steps_bounded (traversal g c.walk b.made) none_asked (script_counts c.core) b.on.rooms within (omega (arith, one_falls c.core.stage)) in
+      let within : StepsWithin (traversal g c.workspace b.made) none_asked (script_counts c.core) = subst (StepsAfter (traversal g c.workspace b.made) none_asked (script_counts c.core)) went b.on.within in
+      let bound : b.made ≤ most_steps (pass_space g) = steps_bounded (traversal g c.workspace b.made) none_asked (script_counts c.core) b.on.rooms within (omega (arith, one_falls c.core.stage)) in
       omega (arith, bound, b.all went)

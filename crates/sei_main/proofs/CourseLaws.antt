@@ -27,8 +27,8 @@ use Rattle.sei_traverse.specs.declared.turned.State.{State}
 use Rattle.sei_traverse.specs.declared.turned.State.TheVariants.{Went, Finished, Refused, Aborted}
 use Rattle.sei_pass.specs.Spaces.{pass_space}
 use Rattle.sei_traverse.specs.Bounds.{most_steps}
-use Rattle.sei_traverse.specs.Errand.{given_in}
-use Rattle.sei_traverse.specs.Facts.{FactsAfter, IsUnfitInput, IsAborted}
+use Rattle.sei_traverse.specs.CallContext.{given_in}
+use Rattle.sei_traverse.specs.FaultInvariant.{FaultInvariantAfter, IsUnfitInput, IsAborted}
 use Rattle.sei_traverse.specs.Given.{has_sealed_call}
 use Rattle.sei_main.specs.declared.world.service.Entered.{Entered}
 use Rattle.sei_main.specs.declared.world.service.Numbers.{Numbers}
@@ -36,7 +36,7 @@ use Rattle.sei_main.specs.Course.{Course, course_begun, course_of}
 use Rattle.sei_main.specs.TableAnswers.{sealed_for}
 use Rattle.sei_main.specs.Tables.{Tables, AreServer}
 use Rattle.sei_main.proofs.CourseKept.{whole_course, course_ends, unplanned_from}
-use Rattle.sei_main.proofs.CourseShape.{Shape, IsLacking, IsEntered, IsGiven, Known, errand_at, next_bucket, reply_now}
+use Rattle.sei_main.proofs.CourseShape.{Shape, IsLacking, IsEntered, IsGiven, Known, context_at, next_bucket, reply_now}
 use Rattle.sei_main.proofs.CourseShape.Shape.{Before, Lacking, Lent, Entry, Given}
 use Rattle.sei_main.proofs.CourseStep.{traversal, none_asked}
 use Rattle.sei_main.proofs.HandsTrusted.{IsSealedCall}
@@ -88,8 +88,8 @@ module _ (g : Geometry) (valid : IsValid g) (text : List ℕ) (bytes : AreBytes 
 
   -- what is known where it turned out so
   known_so : (k : ℕ) (lent : Option (List ℕ)) (state : State) → c.served.state ≡ state → Known g text now buckets s sealed p c made k lent →
-      FactsAfter (errand_at g text now buckets s sealed p k) (traversal g c.walk made) lent none_asked (script_counts c.core) state
-  known_so k lent state e h = subst (λ (o : State). FactsAfter (errand_at g text now buckets s sealed p k) (traversal g c.walk made) lent none_asked (script_counts c.core) o) e h
+      FaultInvariantAfter (context_at g text now buckets s sealed p k) (traversal g c.workspace made) lent none_asked (script_counts c.core) state
+  known_so k lent state e h = subst (λ (o : State). FaultInvariantAfter (context_at g text now buckets s sealed p k) (traversal g c.workspace made) lent none_asked (script_counts c.core) o) e h
 
   aborts_only : (state : State) → c.served.state ≡ state → (IsAborted state → ⊥) → IsLacking g text now buckets s sealed p c → ⊥
   aborts_only state e not h = not (subst IsAborted e h.aborted)
@@ -122,7 +122,7 @@ module _ (g : Geometry) (valid : IsValid g) (text : List ℕ) (bytes : AreBytes 
   entry_of : IsEntered g text now buckets s sealed p c → c.served.entered ≡ Some entry
   entry_of i = i.entered ∙ ap (λ (r : List ℕ). let o : Option Entered = Some (record { now = now; reply = r }) in o) reply_is
 
-  plain_given : (k : ℕ) (w : BucketWords) → IsGiven g text now buckets s sealed p c made k w → c.walk.gate.done ≡ 11 → IsPlain
+  plain_given : (k : ℕ) (w : BucketWords) → IsGiven g text now buckets s sealed p c made k w → c.workspace.gate.done ≡ 11 → IsPlain
   plain_given k w v gate = record {
     entered = entry_of v.entered;
     message = v.sent (omega (arith, gate)) ∙ reply_is;
@@ -159,7 +159,7 @@ module _ (g : Geometry) (valid : IsValid g) (text : List ℕ) (bytes : AreBytes 
   pub sends_right : (c.served.message ≡ []) ⊎ ((c.served.entered ≡ Some entry) × (c.served.message ≡ reply))
   sends_right = by_shape shape
     where
-      by_gate : (k : ℕ) (w : BucketWords) → IsGiven g text now buckets s sealed p c made k w → (c.walk.gate.done ≡ 9) ⊎ (c.walk.gate.done ≡ 9 → ⊥) → (c.served.message ≡ []) ⊎ ((c.served.entered ≡ Some entry) × (c.served.message ≡ reply))
+      by_gate : (k : ℕ) (w : BucketWords) → IsGiven g text now buckets s sealed p c made k w → (c.workspace.gate.done ≡ 9) ⊎ (c.workspace.gate.done ≡ 9 → ⊥) → (c.served.message ≡ []) ⊎ ((c.served.entered ≡ Some entry) × (c.served.message ≡ reply))
       by_gate k w v (inl nine) = inl (v.unsent (omega (arith, nine)))
       by_gate k w v (inr not) = inr (entry_of v.entered, v.sent (grind (arith, v.gate, not)) ∙ reply_is)
 
@@ -168,7 +168,7 @@ module _ (g : Geometry) (valid : IsValid g) (text : List ℕ) (bytes : AreBytes 
       by_shape (Lacking l) = inl l.untouched.message
       by_shape (Lent k w low high l none) = inl l.message
       by_shape (Entry k w gate mine l i) = inl l.message
-      by_shape (Given k w v) = by_gate k w v (cases_eq c.walk.gate.done 9)
+      by_shape (Given k w v) = by_gate k w v (cases_eq c.workspace.gate.done 9)
 
   -- Where it does not finish, it was struck.
 
@@ -189,12 +189,12 @@ module _ (g : Geometry) (valid : IsValid g) (text : List ℕ) (bytes : AreBytes 
   intact : is_intact sealed text ≡ true
   intact = eq-eqb (message_code sealed.number text) sealed.code refl
 
-  has : (k : ℕ) → has_sealed_call (given_in (errand_at g text now buckets s sealed p k)) sealed ≡ true
+  has : (k : ℕ) → has_sealed_call (given_in (context_at g text now buckets s sealed p k)) sealed ≡ true
   has k = has_it g text nth (seal nth) p refl call
 
-  by_strike : (k : ℕ) → IsUnfitInput (errand_at g text now buckets s sealed p k) ⊎ (none_asked.struck < (script_counts c.core).struck) → fallen c.core.stage ≡ 1
+  by_strike : (k : ℕ) → IsUnfitInput (context_at g text now buckets s sealed p k) ⊎ (none_asked.struck < (script_counts c.core).struck) → fallen c.core.stage ≡ 1
   by_strike k (inl (inl altered)) = absurd (both_ways (is_intact sealed text) altered intact)
-  by_strike k (inl (inr without)) = absurd (both_ways (has_sealed_call (given_in (errand_at g text now buckets s sealed p k)) sealed) without (has k))
+  by_strike k (inl (inr without)) = absurd (both_ways (has_sealed_call (given_in (context_at g text now buckets s sealed p k)) sealed) without (has k))
   by_strike k (inr h) = struck_once h
 
   -- nothing was done for it

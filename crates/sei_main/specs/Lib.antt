@@ -9,7 +9,7 @@ pub mod State
 pub mod Answering
 pub mod Serving
 pub mod Tables
-pub mod Errands
+pub mod CallContexts
 pub mod Course
 pub mod SoFar
 pub mod Turning
@@ -20,6 +20,6 @@ pub mod Becomes
 pub mod Run
 pub mod Report
 pub mod Headline
-pub mod Codes
+pub mod ExitCodes
 pub mod Answers
 pub mod Forms

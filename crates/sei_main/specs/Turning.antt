@@ -10,7 +10,7 @@ use Rattle.sei_traverse.specs.Bounds.{StepsWithin, StepsAfter}
 use Rattle.sei_traverse.specs.Running.{on, Makes}
 use Rattle.sei_traverse.specs.State.{TraversalState, IsTraversal, one_more, is_running}
 use Rattle.sei_hand.specs.HandsBehavior.{hands_behavior}
-use Rattle.sei_main.specs.Course.{loan_in, put_back, turned}
+use Rattle.sei_main.specs.Course.{lent_in, put_back, turned}
 
 -- a step on what is lent is that of the definition, under the functions of a core with a plan
 pub record IsStep (g : Geometry) (text : List ℕ) (now : ℕ) (before after : Option BucketWords) (old new : TraversalState) (core later : ScriptState) (t : Turned) : Type 0 where
@@ -20,10 +20,10 @@ pub record IsStep (g : Geometry) (text : List ℕ) (now : ℕ) (before after : O
 -- and so is one on the buckets
 pub record IsTurn (g : Geometry) (text : List ℕ) (now : ℕ) (lent : Option ℕ) (old new : TraversalState) (before after : List BucketWords) (core later : ScriptState) (t : Turned) : Type 0 where
   pub words : List ℕ
-  pub is : turned g text now old.walk (loan_in before lent) core ≡ (record { walk = new.walk; words = words; state = t.state }, later)
-  pub buckets : after ≡ put_back before lent (loan_in before lent) words
-  pub want : t.want ≡ new.walk.want
-  pub sealed : new.walk.sealed ≡ old.walk.sealed
+  pub is : turned g text now old.workspace (lent_in before lent) core ≡ (record { workspace = new.workspace; words = words; state = t.state }, later)
+  pub buckets : after ≡ put_back before lent (lent_in before lent) words
+  pub want : t.want ≡ new.workspace.want
+  pub sealed : new.workspace.sealed ≡ old.workspace.sealed
   pub space : new.space ≡ old.space
   pub steps : new.steps ≡ one_more old.steps
   pub running : new.running ≡ is_running t.state

@@ -28,7 +28,7 @@ pub enum Status {
 }
 
 impl Status {
-    ghost use Rattle.sei_main.specs.Codes.{code_of};
+    ghost use Rattle.sei_main.specs.ExitCodes.{code_of};
 
     /// The exit status of the process.
     pub fn code(&self) -> u8

@@ -64,7 +64,7 @@ fn turn_on(
     clock: &SetClock,
 ) -> Turned
     requires running { traversal.old.running ≡ true }
-    requires room { length (parsed_words (sealed_call (parsed_call hands.now text.now) traversal.old.walk.sealed.nth)) ≤ traversal.old.space.input }
+    requires room { length (parsed_words (sealed_call (parsed_call hands.now text.now) traversal.old.workspace.sealed.nth)) ≤ traversal.old.space.input }
     requires laid_out { words.old.geometry ≡ traversal.old.space.geometry }
     ensures { IsStep hands.now text.now clock.now.at (Some words.old) (Some words.new) traversal.old traversal.new core.old core.new result }
 {
@@ -81,7 +81,7 @@ fn turn_alone(
     clock: &SetClock,
 ) -> Turned
     requires running { traversal.old.running ≡ true }
-    requires room { length (parsed_words (sealed_call (parsed_call hands.now text.now) traversal.old.walk.sealed.nth)) ≤ traversal.old.space.input }
+    requires room { length (parsed_words (sealed_call (parsed_call hands.now text.now) traversal.old.workspace.sealed.nth)) ≤ traversal.old.space.input }
     ensures { IsStep hands.now text.now clock.now.at None None traversal.old traversal.new core.old core.new result }
 {
     traversal.step(hands, text, None, core, clock)
@@ -100,7 +100,7 @@ fn turn(
     clock: &SetClock,
 ) -> Turned
     requires running { traversal.old.running ≡ true }
-    requires room { length (parsed_words (sealed_call (parsed_call hands.now text.now) traversal.old.walk.sealed.nth)) ≤ traversal.old.space.input }
+    requires room { length (parsed_words (sealed_call (parsed_call hands.now text.now) traversal.old.workspace.sealed.nth)) ≤ traversal.old.space.input }
     requires space { traversal.old.space ≡ pass_space hands.now }
     requires laid_out { All (IsOfGeometry hands.now) buckets.old.items }
     ensures turned { IsTurn hands.now text.now clock.now.at lent traversal.old traversal.new buckets.old.items buckets.new.items core.old core.new result }
@@ -149,7 +149,7 @@ impl SoFar {
     #[inline(always)]
     fn meet(&mut self, traversal: &Traversal, turned: Turned)
         requires { HasRoom traversal.now.space.bytes self.old }
-        ensures served { served_in self.new ≡ served_behind turned.want traversal.now.walk (served_in self.old) turned.state }
+        ensures served { served_in self.new ≡ served_behind turned.want traversal.now.workspace (served_in self.old) turned.state }
         ensures room { HasRoom traversal.now.space.bytes self.new }
     {
         match turned.want {

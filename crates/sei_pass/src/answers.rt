@@ -6,7 +6,7 @@ ghost use Rattle.sei_log.specs.declared.log.Change.{Change};
 ghost use Rattle.sei_log.specs.declared.notes.Notes.{Notes};
 ghost use Rattle.sei_stmt.specs.Slots.{is_admissible};
 ghost use Rattle.sei_stmt.specs.Statements.{now_tree, alloc_tree, noted_now, noted_slot};
-ghost use Rattle.sei_words.specs.Loan.{words_of, bucket_of, IsOf};
+ghost use Rattle.sei_words.specs.LentBucket.{words_of, bucket_of, IsOf};
 ghost use Rattle.sei_pass.specs.Setting.{timed, slotted};
 ghost use Rattle.sei_pass.specs.Frames.{machine_at, after_at, Does};
 
@@ -21,8 +21,8 @@ use sei_log::Notes;
 /// Whether the slot may answer a request for a free one: it is free, or it is the number of slots
 /// and none is free.
 fn is_admissible<L: Slots>(lent: &L, g: &Geometry, moment: u64, slot: u64) -> bool
-    requires { IsOf g.now (L.loan lent.now) }
-    ensures { result ≡ is_admissible (slotted Which.Reading g.now (bucket_of (L.loan lent.now))) (words_of (L.loan lent.now)) moment slot }
+    requires { IsOf g.now (L.lent_bucket lent.now) }
+    ensures { result ≡ is_admissible (slotted Which.Reading g.now (bucket_of (L.lent_bucket lent.now))) (words_of (L.lent_bucket lent.now)) moment slot }
 {
     if slot < g.slots {
         lent.is_free(g, slot, moment)
@@ -98,11 +98,11 @@ impl Frame {
     ) -> PassStep
         requires to { to < 32 }
         requires moment { moment < 32 }
-        requires geometry { IsOf g.now (L.loan lent.now) }
+        requires geometry { IsOf g.now (L.lent_bucket lent.now) }
         requires index { index + 1 < 2 ^ 64 }
         ensures { (log : Kept Change) →
-            Runs K.gives (alloc_tree (slotted which g.now (bucket_of (L.loan lent.now))) index (machine_at self.old (words_of (L.loan lent.now)) log notes.old) to moment) core.old core.new
-            (after_at self.new (words_of (L.loan lent.now)) log notes.new result) }
+            Runs K.gives (alloc_tree (slotted which g.now (bucket_of (L.lent_bucket lent.now))) index (machine_at self.old (words_of (L.lent_bucket lent.now)) log notes.old) to moment) core.old core.new
+            (after_at self.new (words_of (L.lent_bucket lent.now)) log notes.new result) }
     {
         let t = core.value(self.registers[moment as usize]);
         match which {
@@ -129,11 +129,11 @@ impl Frame {
         core: &mut K,
     ) -> PassStep
         requires to { to < 32 }
-        requires geometry { IsOf g.now (L.loan lent.now) }
+        requires geometry { IsOf g.now (L.lent_bucket lent.now) }
         requires index { index + 1 < 2 ^ 64 }
         ensures { (log : Kept Change) (notes : Notes) →
-            Runs K.gives (noted_slot (slotted Which.Reading g.now (bucket_of (L.loan lent.now))) index (machine_at self.old (words_of (L.loan lent.now)) log notes) to moment note) core.old core.new
-            (after_at self.new (words_of (L.loan lent.now)) log notes result) }
+            Runs K.gives (noted_slot (slotted Which.Reading g.now (bucket_of (L.lent_bucket lent.now))) index (machine_at self.old (words_of (L.lent_bucket lent.now)) log notes) to moment note) core.old core.new
+            (after_at self.new (words_of (L.lent_bucket lent.now)) log notes result) }
     {
         let Some(note) = note else {
             return PassStep::Bad(AbortCause::Notes);

@@ -11,7 +11,7 @@ ghost use Rattle.sei_stmt.specs.Machine.{Setting, ends};
 ghost use Rattle.sei_stmt.specs.Machine.Outcome.{Next, Halted};
 ghost use Rattle.sei_stmt.specs.Statements.{const_tree, move_tree, add_tree, sub_tree, input_tree, load_tree, store_tree, emit_tree, equal_tree, less_tree};
 ghost use Rattle.sei_stmt.specs.Table.{HasRegisters};
-ghost use Rattle.sei_words.specs.Loan.{words_of, place_of};
+ghost use Rattle.sei_words.specs.LentBucket.{words_of, place_of};
 ghost use Rattle.sei_pass.specs.Acts.{act_of};
 ghost use Rattle.sei_pass.specs.Arms.{asked_of, site, arm_tree};
 ghost use Rattle.sei_pass.specs.Frames.{machine_at, outcome_of};
@@ -189,8 +189,8 @@ impl Frame {
         ensures { (log : Kept Change) (notes : Notes) →
             Runs K.gives
             (once_tree phase index (act_of self.old.registers (Stmt.Load to address)) (λ m. load_tree index m to address)
-            (machine_at self.old (words_of (L.loan lent.now)) log notes)) core.old core.new
-            (arm_after self.new (words_of (L.loan lent.now)) log notes result) }
+            (machine_at self.old (words_of (L.lent_bucket lent.now)) log notes)) core.old core.new
+            (arm_after self.new (words_of (L.lent_bucket lent.now)) log notes result) }
     {
         let act = Act::Load(self.registers[address as usize]);
         match often(core, phase, index, act) {
@@ -220,9 +220,9 @@ impl Frame {
         ensures tree { (notes : Notes) →
             Runs K.gives
             (once_tree phase index (act_of self.old.registers (Stmt.Store address from)) (λ m. store_tree index m address from)
-            (machine_at self.old (words_of (L.loan lent.old)) log.old notes)) core.old core.new
-            (arm_after self.new (words_of (L.loan lent.new)) log.new notes result) }
-        ensures lent { place_of (L.loan lent.new) ≡ place_of (L.loan lent.old) }
+            (machine_at self.old (words_of (L.lent_bucket lent.old)) log.old notes)) core.old core.new
+            (arm_after self.new (words_of (L.lent_bucket lent.new)) log.new notes result) }
+        ensures lent { place_of (L.lent_bucket lent.new) ≡ place_of (L.lent_bucket lent.old) }
     {
         let act = Act::Store(self.registers[address as usize]);
         match often(core, phase, index, act) {
@@ -345,9 +345,9 @@ impl Frame {
         requires index { index + 1 < 2 ^ 64 }
         requires made { self.old.made + 1 < 2 ^ 64 }
         ensures tree { (g : Setting) (notes : Notes) →
-            Runs K.gives (arm_tree g phase index (machine_at self.old (words_of (L.loan lent.old)) log.old notes) statement) core.old core.new
-            (arm_after self.new (words_of (L.loan lent.new)) log.new notes result) }
-        ensures lent { place_of (L.loan lent.new) ≡ place_of (L.loan lent.old) }
+            Runs K.gives (arm_tree g phase index (machine_at self.old (words_of (L.lent_bucket lent.old)) log.old notes) statement) core.old core.new
+            (arm_after self.new (words_of (L.lent_bucket lent.new)) log.new notes result) }
+        ensures lent { place_of (L.lent_bucket lent.new) ≡ place_of (L.lent_bucket lent.old) }
     {
         match statement {
             Stmt::Const { to, number } => self.ask_constant(to, number, phase, index, core),

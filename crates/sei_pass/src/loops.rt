@@ -2,7 +2,7 @@
 ghost use Rattle.std.specs.Prelude.{◌≡◌, ◌+◌, ◌<◌, ◌^◌};
 ghost use Rattle.sei_log.specs.declared.notes.Notes.{Notes};
 ghost use Rattle.sei_stmt.specs.Machine.{Setting};
-ghost use Rattle.sei_words.specs.Loan.{words_of, place_of};
+ghost use Rattle.sei_words.specs.LentBucket.{words_of, place_of};
 ghost use Rattle.sei_pass.specs.Frames.{machine_at};
 ghost use Rattle.sei_pass.specs.Loop.{LeadsOrLeaves, RunsLoop, HasIndexAfter, IfOut, led_to};
 
@@ -80,10 +80,10 @@ impl Frame {
         requires made { self.old.made + 1 < 2 ^ 64 }
         ensures led { (g : Setting) (notes : Notes) → g.statements ≡ table.now → self.old.made < g.budget →
             LeadsOrLeaves K.gives g phase
-            (record { machine = machine_at self.old (words_of (L.loan lent.old)) log.old notes; index = index; core = core.old })
-            (led_to result exit.new) (machine_at self.new (words_of (L.loan lent.new)) log.new notes) core.new }
+            (record { machine = machine_at self.old (words_of (L.lent_bucket lent.old)) log.old notes; index = index; core = core.old })
+            (led_to result exit.new) (machine_at self.new (words_of (L.lent_bucket lent.new)) log.new notes) core.new }
         ensures after { IfOut (led_to result exit.new) (λ exit. HasIndexAfter exit index) }
-        ensures lent { place_of (L.loan lent.new) ≡ place_of (L.loan lent.old) }
+        ensures lent { place_of (L.lent_bucket lent.new) ≡ place_of (L.lent_bucket lent.old) }
     {
         let Some(statement) = table.get(index) else {
             *exit = Exit::Alone;
@@ -134,10 +134,10 @@ impl Frame {
     ) -> Ran
         ensures ran { (g : Setting) (notes : Notes) → g.statements ≡ table.now → g.budget ≡ budget →
             RunsLoop K.gives g phase result.before result.index
-            (record { machine = machine_at self.old (words_of (L.loan lent.old)) log.old notes; index = from; core = core.old })
-            result.exit (machine_at self.new (words_of (L.loan lent.new)) log.new notes) core.new }
+            (record { machine = machine_at self.old (words_of (L.lent_bucket lent.old)) log.old notes; index = from; core = core.old })
+            result.exit (machine_at self.new (words_of (L.lent_bucket lent.new)) log.new notes) core.new }
         ensures after { HasIndexAfter result.exit result.index }
-        ensures lent { place_of (L.loan lent.new) ≡ place_of (L.loan lent.old) }
+        ensures lent { place_of (L.lent_bucket lent.new) ≡ place_of (L.lent_bucket lent.old) }
     {
         let first = self.made;
         let mut index = from;

@@ -5,7 +5,7 @@ ghost use Rattle.sei_fault.specs.Tree.{Runs};
 ghost use Rattle.sei_log.specs.declared.log.Change.{Change};
 ghost use Rattle.sei_log.specs.declared.notes.Notes.{Notes};
 ghost use Rattle.sei_stmt.specs.Statements.{load_tree, store_tree};
-ghost use Rattle.sei_words.specs.Loan.{words_of, place_of};
+ghost use Rattle.sei_words.specs.LentBucket.{words_of, place_of};
 ghost use Rattle.sei_pass.specs.Frames.{machine_at, after_at};
 
 use crate::frame::{Frame, PassStep};
@@ -28,8 +28,8 @@ impl Frame {
         requires address { address < 32 }
         requires index { index + 1 < 2 ^ 64 }
         ensures { (log : Kept Change) (notes : Notes) →
-            Runs K.gives (load_tree index (machine_at self.old (words_of (L.loan lent.now)) log notes) to address) core.old core.new
-            (after_at self.new (words_of (L.loan lent.now)) log notes result) }
+            Runs K.gives (load_tree index (machine_at self.old (words_of (L.lent_bucket lent.now)) log notes) to address) core.old core.new
+            (after_at self.new (words_of (L.lent_bucket lent.now)) log notes result) }
     {
         let a = core.value(self.registers[address as usize]);
         match lent.get(a) {
@@ -58,9 +58,9 @@ impl Frame {
         requires from { from < 32 }
         requires index { index + 1 < 2 ^ 64 }
         ensures tree { (notes : Notes) →
-            Runs K.gives (store_tree index (machine_at self.old (words_of (L.loan lent.old)) log.old notes) address from) core.old core.new
-            (after_at self.new (words_of (L.loan lent.new)) log.new notes result) }
-        ensures lent { place_of (L.loan lent.new) ≡ place_of (L.loan lent.old) }
+            Runs K.gives (store_tree index (machine_at self.old (words_of (L.lent_bucket lent.old)) log.old notes) address from) core.old core.new
+            (after_at self.new (words_of (L.lent_bucket lent.new)) log.new notes result) }
+        ensures lent { place_of (L.lent_bucket lent.new) ≡ place_of (L.lent_bucket lent.old) }
     {
         let a = core.value(self.registers[address as usize]);
         let Some(word) = lent.get(a) else {

@@ -9,7 +9,7 @@ ghost use Rattle.sei_pass.specs.Acts.{act_of};
 ghost use Rattle.sei_pass.specs.Loop.{LeadsOrLeaves, RunsLoop, HasIndexAfter, IfOut, led_to};
 ghost use Rattle.sei_pass.specs.Spaces.{pass_space};
 ghost use Rattle.sei_pass.specs.State.{IsPass, new_pass};
-ghost use Rattle.sei_words.specs.Loan.{words_of, bucket_of, place_of, IsOf};
+ghost use Rattle.sei_words.specs.LentBucket.{words_of, bucket_of, place_of, IsOf};
 ghost use Rattle.sei_words.specs.Exits.{lent_at, lent_left};
 ghost use Rattle.sei_pass.specs.Setting.{sealed_call, setting_of};
 ghost use Rattle.sei_pass.specs.Frames.{outcome_of};
@@ -184,12 +184,12 @@ impl Pass {
         index: u64,
     ) -> PassStep
         requires room { length (parsed_words (sealed_call ((H.behavior hands.now).parsed input.now) sealed.now.nth)) ≤ self.old.input.room }
-        requires lent { IsOf self.old.space.geometry (L.loan lent.old) }
+        requires lent { IsOf self.old.space.geometry (L.lent_bucket lent.old) }
         ensures stepped { Stepped K.gives K.counts (C.told clock.now)
-            (setting_of which (H.behavior hands.now) input.now sealed.now (bucket_of (L.loan lent.old)) self.old.space)
-            index (machine_of self.old (words_of (L.loan lent.old)) log.old notes.old)
-            (machine_of self.new (words_of (L.loan lent.new)) log.new notes.new) (outcome_of result) core.old core.new }
-        ensures lent { place_of (L.loan lent.new) ≡ place_of (L.loan lent.old) }
+            (setting_of which (H.behavior hands.now) input.now sealed.now (bucket_of (L.lent_bucket lent.old)) self.old.space)
+            index (machine_of self.old (words_of (L.lent_bucket lent.old)) log.old notes.old)
+            (machine_of self.new (words_of (L.lent_bucket lent.new)) log.new notes.new) (outcome_of result) core.old core.new }
+        ensures lent { place_of (L.lent_bucket lent.new) ≡ place_of (L.lent_bucket lent.old) }
         ensures space { self.new.space ≡ self.old.space }
         ensures pass { IsPass self.new }
         ensures log { log.new.room ≡ log.old.room }
@@ -227,10 +227,10 @@ impl Pass {
     ) -> Option<u64>
         ensures led { (g : Setting) (notes : Notes) → g.statements ≡ (H.behavior hands.now).statements → g.budget ≡ self.old.space.budget →
             LeadsOrLeaves K.gives g phase
-            (record { machine = machine_of self.old (words_of (L.loan lent.old)) log.old notes; index = index; core = core.old })
-            (led_to result exit.new) (machine_of self.new (words_of (L.loan lent.new)) log.new notes) core.new }
+            (record { machine = machine_of self.old (words_of (L.lent_bucket lent.old)) log.old notes; index = index; core = core.old })
+            (led_to result exit.new) (machine_of self.new (words_of (L.lent_bucket lent.new)) log.new notes) core.new }
         ensures after { IfOut (led_to result exit.new) (λ exit. HasIndexAfter exit index) }
-        ensures lent { place_of (L.loan lent.new) ≡ place_of (L.loan lent.old) }
+        ensures lent { place_of (L.lent_bucket lent.new) ≡ place_of (L.lent_bucket lent.old) }
         ensures space { self.new.space ≡ self.old.space }
         ensures pass { IsPass self.new }
         ensures log { log.new.room ≡ log.old.room }
@@ -260,10 +260,10 @@ impl Pass {
     ) -> Ran
         ensures ran { (g : Setting) (notes : Notes) → g.statements ≡ (H.behavior hands.now).statements → g.budget ≡ self.old.space.budget →
             RunsLoop K.gives g phase result.before result.index
-            (record { machine = machine_of self.old (words_of (L.loan lent.old)) log.old notes; index = from; core = core.old })
-            result.exit (machine_of self.new (words_of (L.loan lent.new)) log.new notes) core.new }
+            (record { machine = machine_of self.old (words_of (L.lent_bucket lent.old)) log.old notes; index = from; core = core.old })
+            result.exit (machine_of self.new (words_of (L.lent_bucket lent.new)) log.new notes) core.new }
         ensures after { HasIndexAfter result.exit result.index }
-        ensures lent { place_of (L.loan lent.new) ≡ place_of (L.loan lent.old) }
+        ensures lent { place_of (L.lent_bucket lent.new) ≡ place_of (L.lent_bucket lent.old) }
         ensures space { self.new.space ≡ self.old.space }
         ensures pass { IsPass self.new }
         ensures log { log.new.room ≡ log.old.room }

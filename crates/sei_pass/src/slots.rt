@@ -1,7 +1,7 @@
 //! The free slots of what is lent to a pass.
 ghost use Rattle.std.specs.Prelude.{◌≡◌, ◌<◌};
 ghost use Rattle.sei_stmt.specs.Slots.{first_free};
-ghost use Rattle.sei_words.specs.Loan.{words_of, bucket_of, IsOf};
+ghost use Rattle.sei_words.specs.LentBucket.{words_of, bucket_of, IsOf};
 ghost use Rattle.sei_pass.specs.Setting.{free_of};
 
 use mc_model::Geometry;
@@ -11,14 +11,14 @@ use sei_words::{Lent, NoBucket, Words};
 pub trait Slots: Lent {
     /// Whether the slot is free at this moment. Where no bucket is lent, none is.
     fn is_free(&self, g: &Geometry, slot: u64, moment: u64) -> bool
-        requires geometry { IsOf g.now (Self.loan self.now) }
+        requires geometry { IsOf g.now (Self.lent_bucket self.now) }
         requires slot { slot < g.now.slots }
-        ensures { result ≡ free_of g.now (bucket_of (Self.loan self.now)) (words_of (Self.loan self.now)) moment slot };
+        ensures { result ≡ free_of g.now (bucket_of (Self.lent_bucket self.now)) (words_of (Self.lent_bucket self.now)) moment slot };
 
     /// The lowest slot that is free at this moment, or the number of slots where none is.
     fn lowest_free(&self, g: &Geometry, moment: u64) -> u64
-        requires { IsOf g.now (Self.loan self.now) }
-        ensures { result ≡ first_free (free_of g.now (bucket_of (Self.loan self.now)) (words_of (Self.loan self.now)) moment) 0 g.now.slots };
+        requires { IsOf g.now (Self.lent_bucket self.now) }
+        ensures { result ≡ first_free (free_of g.now (bucket_of (Self.lent_bucket self.now)) (words_of (Self.lent_bucket self.now)) moment) 0 g.now.slots };
 }
 
 impl Slots for Words {

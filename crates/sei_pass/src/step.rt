@@ -4,7 +4,7 @@ ghost use Rattle.sei_fault.specs.Tree.{Runs};
 ghost use Rattle.sei_stmt.specs.Handling.{parsed_words};
 ghost use Rattle.sei_stmt.specs.Statements.{statement_tree};
 ghost use Rattle.sei_stmt.specs.Table.{HasRegisters, JumpsInside, HasNext};
-ghost use Rattle.sei_words.specs.Loan.{words_of, bucket_of, place_of, IsOf};
+ghost use Rattle.sei_words.specs.LentBucket.{words_of, bucket_of, place_of, IsOf};
 ghost use Rattle.sei_pass.specs.Setting.{sealed_call, setting_of};
 ghost use Rattle.sei_pass.specs.Frames.{machine_at, after_at, outcome_of, KeepsRooms};
 ghost use Rattle.sei_pass.specs.Steps.{IsAsked, Stepped};
@@ -51,7 +51,7 @@ impl Frame {
         clock: &C,
         index: u64,
     ) -> PassStep
-        requires geometry { IsOf space.now.geometry (L.loan lent.old) }
+        requires geometry { IsOf space.now.geometry (L.lent_bucket lent.old) }
         requires room { length (parsed_words (sealed_call ((H.behavior hands.now).parsed input.now) sealed.now.nth)) ≤ self.old.input.room }
         requires fits { length self.old.output.items ≤ self.old.output.room }
         requires bytes_fit { length self.old.bytes.items ≤ self.old.bytes.room }
@@ -59,10 +59,10 @@ impl Frame {
         requires scratch { scratch.old.room ≡ self.old.output.room }
         requires made { self.old.made ≤ space.now.budget }
         ensures stepped { Stepped K.gives K.counts (C.told clock.now)
-            (setting_of which (H.behavior hands.now) input.now sealed.now (bucket_of (L.loan lent.old)) space.now)
-            index (machine_at self.old (words_of (L.loan lent.old)) log.old notes.old)
-            (machine_at self.new (words_of (L.loan lent.new)) log.new notes.new) (outcome_of result) core.old core.new }
-        ensures lent { place_of (L.loan lent.new) ≡ place_of (L.loan lent.old) }
+            (setting_of which (H.behavior hands.now) input.now sealed.now (bucket_of (L.lent_bucket lent.old)) space.now)
+            index (machine_at self.old (words_of (L.lent_bucket lent.old)) log.old notes.old)
+            (machine_at self.new (words_of (L.lent_bucket lent.new)) log.new notes.new) (outcome_of result) core.old core.new }
+        ensures lent { place_of (L.lent_bucket lent.new) ≡ place_of (L.lent_bucket lent.old) }
         ensures rooms { KeepsRooms self.old self.new }
         ensures made { self.new.made ≤ space.now.budget }
         ensures log { log.new.room ≡ log.old.room }
@@ -108,13 +108,13 @@ impl Frame {
         requires jumps { JumpsInside (length (H.behavior hands.now).statements) index statement }
         requires small { length (H.behavior hands.now).statements < 2 ^ 63 }
         requires here { index < length (H.behavior hands.now).statements }
-        requires geometry { IsOf space.now.geometry (L.loan lent.old) }
+        requires geometry { IsOf space.now.geometry (L.lent_bucket lent.old) }
         requires room { length (parsed_words (sealed_call ((H.behavior hands.now).parsed input.now) sealed.now.nth)) ≤ self.old.input.room }
         requires scratch { length self.old.output.items ≤ scratch.old.room }
-        ensures tree { Runs K.gives (statement_tree (setting_of which (H.behavior hands.now) input.now sealed.now (bucket_of (L.loan lent.old)) space.now time)
-            index (machine_at self.old (words_of (L.loan lent.old)) log.old notes.old) statement)
-            core.old core.new (after_at self.new (words_of (L.loan lent.new)) log.new notes.new result) }
-        ensures lent { place_of (L.loan lent.new) ≡ place_of (L.loan lent.old) }
+        ensures tree { Runs K.gives (statement_tree (setting_of which (H.behavior hands.now) input.now sealed.now (bucket_of (L.lent_bucket lent.old)) space.now time)
+            index (machine_at self.old (words_of (L.lent_bucket lent.old)) log.old notes.old) statement)
+            core.old core.new (after_at self.new (words_of (L.lent_bucket lent.new)) log.new notes.new result) }
+        ensures lent { place_of (L.lent_bucket lent.new) ≡ place_of (L.lent_bucket lent.old) }
         ensures scratch { scratch.new.room ≡ scratch.old.room }
     {
         match statement {

@@ -1,5 +1,5 @@
 //! Passes over small tables, with the plain core and a clock that is set.
-ghost use Rattle.sei_words.specs.Loan.{IsOf};
+ghost use Rattle.sei_words.specs.LentBucket.{IsOf};
 ghost use Rattle.sei_words.specs.Exits.{lent_at};
 
 use super::*;

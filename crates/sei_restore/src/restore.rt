@@ -2,7 +2,7 @@
 ghost use Rattle.std.specs.Prelude.{◌≡◌, ◌-◌, ◌<◌, length, slice_get};
 ghost use Rattle.sei_fault.specs.Tree.{Runs};
 ghost use Rattle.sei_words.specs.Exits.{lent_at, lent_left};
-ghost use Rattle.sei_words.specs.Loan.{words_of, place_of};
+ghost use Rattle.sei_words.specs.LentBucket.{words_of, place_of};
 ghost use Rattle.sei_restore.specs.Undoing.{undo_tree, undo_at, undone_of};
 
 use sei_fault::{AbortCause, Core};
@@ -40,9 +40,9 @@ pub fn undo_on<L: Lent, K: Core>(
     core: &mut K,
 ) -> Result<(), AbortCause>
     requires { i < length log.now.items }
-    ensures undone { Runs K.gives (undo_at (words_of (L.loan lent.old)) (slice_get log.now.items (length log.now.items - 1 - i)))
-        core.old core.new (undone_of (words_of (L.loan lent.new)) result) }
-    ensures lent { place_of (L.loan lent.new) ≡ place_of (L.loan lent.old) }
+    ensures undone { Runs K.gives (undo_at (words_of (L.lent_bucket lent.old)) (slice_get log.now.items (length log.now.items - 1 - i)))
+        core.old core.new (undone_of (words_of (L.lent_bucket lent.new)) result) }
+    ensures lent { place_of (L.lent_bucket lent.new) ≡ place_of (L.lent_bucket lent.old) }
 {
     match log.get(log.len() - 1 - i) {
         None => unreachable!(),
@@ -55,8 +55,8 @@ fn undo_change<L: Lent, K: Core>(
     lent: &mut L,
     core: &mut K,
 ) -> Result<(), AbortCause>
-    ensures undone { Runs K.gives (undo_tree (words_of (L.loan lent.old)) change) core.old core.new (undone_of (words_of (L.loan lent.new)) result) }
-    ensures lent { place_of (L.loan lent.new) ≡ place_of (L.loan lent.old) }
+    ensures undone { Runs K.gives (undo_tree (words_of (L.lent_bucket lent.old)) change) core.old core.new (undone_of (words_of (L.lent_bucket lent.new)) result) }
+    ensures lent { place_of (L.lent_bucket lent.new) ≡ place_of (L.lent_bucket lent.old) }
 {
     let a = core.value(change.address);
     let was = core.value(change.was);

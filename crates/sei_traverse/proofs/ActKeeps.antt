@@ -21,9 +21,9 @@ use Rattle.sei_compare.specs.Comparing.{entry_tree, codes_tree, word_at, wire_tr
 use Rattle.mc_model.specs.declared.geometry.Geometry.{Geometry}
 use Rattle.sei_traverse.specs.declared.turned.Want.{Want}
 use Rattle.sei_traverse.specs.declared.turned.Want.TheVariants.{Nothing, Enter as WantEnter, Give as WantGive, Take as WantTake}
-use Rattle.sei_traverse.specs.declared.walk.Ending.{Ending}
-use Rattle.sei_traverse.specs.declared.walk.Ending.TheVariants.{Leads, Refuses, Aborts}
-use Rattle.sei_traverse.specs.declared.walk.Walk.{Walk}
+use Rattle.sei_traverse.specs.declared.workspace.Ending.{Ending}
+use Rattle.sei_traverse.specs.declared.workspace.Ending.TheVariants.{Leads, Refuses, Aborts}
+use Rattle.sei_traverse.specs.declared.workspace.Workspace.{Workspace}
 use Rattle.sei_traverse.specs.Acts.{Acted, acted, ends, at, closing_then, closes}
 use Rattle.sei_traverse.specs.PassActs.{first_machine, second_machine, with_first, with_second, first_from, first_to, second_from, second_to}
 use Rattle.sei_traverse.specs.Phases.{guard_call, store_wanted, take_wanted, take_tree, undone_as, undone_to, compared, entries_to, outputs_to, word_to, copy_bytes, wire_to, verify_copy, reply_of, send_want}
@@ -41,12 +41,12 @@ if_always : {R : Type 0} (P : R → Type 0) (b : Bool) (s t : Tree R) → Always
 if_always P true s t h i = h
 if_always P false s t h i = i
 
--- the walk whose gate closed so many phases
-abbrev pub gated : Walk → ℕ → Walk
+-- the workspace whose gate closed so many phases
+abbrev pub gated : Workspace → ℕ → Workspace
 gated w done = record w { gate = record { done = done } }
 
 -- a closing test is answered yes, or it is not
-pub closing_always : (P : Acted → Type 0) (phase : Phase) (w : Walk) (words : List ℕ) (on : Walk → Tree Acted) → Always P (on (gated w (risen w.gate.done))) →
+pub closing_always : (P : Acted → Type 0) (phase : Phase) (w : Workspace) (words : List ℕ) (on : Workspace → Tree Acted) → Always P (on (gated w (risen w.gate.done))) →
     P (acted (gated w w.gate.done) words (Aborts (Gate w.gate.done))) → Always P (closing_then phase w words on)
 closing_always P phase w words on h i = by_answer
   where
@@ -61,18 +61,18 @@ abbrev pub IsNoStore : Phase → ℕ → Type 0
 IsNoStore Take zero = ⊥
 IsNoStore phase index = ⊤
 
-pub record Keeps (w : Walk) (y : Acted) : Type 0 where
-  pub sealed : y.walk.sealed ≡ w.sealed
-  pub place : y.walk.place ≡ w.place
-  pub wanted : y.walk.wanted ≡ w.wanted
-  pub gate : (y.walk.gate.done ≡ w.gate.done) ⊎ (y.walk.gate.done ≡ risen w.gate.done)
+pub record Keeps (w : Workspace) (y : Acted) : Type 0 where
+  pub sealed : y.workspace.sealed ≡ w.sealed
+  pub place : y.workspace.place ≡ w.place
+  pub wanted : y.workspace.wanted ≡ w.wanted
+  pub gate : (y.workspace.gate.done ≡ w.gate.done) ⊎ (y.workspace.gate.done ≡ risen w.gate.done)
 
-pub record HonestlyKeeps (w : Walk) (y : Acted) : Type 0 where
-  pub sealed : y.walk.sealed ≡ w.sealed
-  pub place : y.walk.place ≡ w.place
-  pub gate : (y.walk.gate.done ≡ w.gate.done) ⊎ (y.walk.gate.done ≡ risen w.gate.done)
+pub record HonestlyKeeps (w : Workspace) (y : Acted) : Type 0 where
+  pub sealed : y.workspace.sealed ≡ w.sealed
+  pub place : y.workspace.place ≡ w.place
+  pub gate : (y.workspace.gate.done ≡ w.gate.done) ⊎ (y.workspace.gate.done ≡ risen w.gate.done)
 
-without : {w : Walk} {y : Acted} → Keeps w y → HonestlyKeeps w y
+without : {w : Workspace} {y : Acted} → Keeps w y → HonestlyKeeps w y
 without k = record { sealed = k.sealed; place = k.place; gate = k.gate }
 
 -- a number that stays or rises, from another one that is the same
@@ -80,15 +80,15 @@ from_same : (a b n : ℕ) → b ≡ a → (n ≡ b) ⊎ (n ≡ risen b) → (n �
 from_same a b n h (inl stays) = inl (stays ∙ h)
 from_same a b n h (inr rises) = inr (rises ∙ ap risen h)
 
--- another walk that has all this
-record Same (w u : Walk) : Type 0 where
+-- another workspace that has all this
+record Same (w u : Workspace) : Type 0 where
   sealed : u.sealed ≡ w.sealed
   place : u.place ≡ w.place
   wanted : u.wanted ≡ w.wanted
   gate : u.gate.done ≡ w.gate.done
 
-module _ (w u : Walk) (s : Same w u) where
-  keeps_at : (v : Walk) (words : List ℕ) (ending : Ending) → v.sealed ≡ u.sealed → v.place ≡ u.place → v.wanted ≡ u.wanted → (v.gate.done ≡ u.gate.done) ⊎ (v.gate.done ≡ risen u.gate.done) → Keeps w (acted v words ending)
+module _ (w u : Workspace) (s : Same w u) where
+  keeps_at : (v : Workspace) (words : List ℕ) (ending : Ending) → v.sealed ≡ u.sealed → v.place ≡ u.place → v.wanted ≡ u.wanted → (v.gate.done ≡ u.gate.done) ⊎ (v.gate.done ≡ risen u.gate.done) → Keeps w (acted v words ending)
   keeps_at v words ending d p n g = record { sealed = d ∙ s.sealed; place = p ∙ s.place; wanted = n ∙ s.wanted; gate = from_same w.gate.done u.gate.done v.gate.done s.gate g }
 
   keeps_here : (words : List ℕ) (ending : Ending) → Keeps w (acted u words ending)
@@ -112,7 +112,7 @@ module _ (w u : Walk) (s : Same w u) where
 not_zero : (n : ℕ) → (suc n == 0) ≡ false
 not_zero n = other (suc n) 0 (λ h. omega (arith, h))
 
-module _ (g : Given) (now : ℕ) (w : Walk) (words : List ℕ) where
+module _ (g : Given) (now : ℕ) (w : Workspace) (words : List ℕ) where
   itself : Same w w
   itself = record { sealed = refl; place = refl; wanted = refl; gate = refl }
 
@@ -129,7 +129,7 @@ module _ (g : Given) (now : ℕ) (w : Walk) (words : List ℕ) where
 
   take_keeps : Always (Keeps w) (closing_then Take w words (take_wanted g.space.geometry words))
   take_keeps =
-      let v : Walk = gated w (risen w.gate.done) in
+      let v : Workspace = gated w (risen w.gate.done) in
       closing_always (Keeps w) Take w words (take_wanted g.space.geometry words)
       (if_always (Keeps w) (nat_lt v.wanted g.space.geometry.buckets) (ends (record v { want = WantTake v.wanted }) words (Leads (at First 0))) (ends v words (Aborts (Range v.wanted)))
       (keeps_at w w itself (record v { want = WantTake v.wanted }) words (Leads (at First 0)) refl refl refl (inr refl))
@@ -197,34 +197,34 @@ module _ (g : Given) (now : ℕ) (w : Walk) (words : List ℕ) where
 
 -- The acts that only close their phase leave all but the gate and the want.
 
--- the two walks have the same notes, second pass, wanted bucket and copy for the wire
-pub record IsLike (w v : Walk) : Type 0 where
+-- the two workspaces have the same notes, second pass, wanted bucket and copy for the wire
+pub record IsLike (w v : Workspace) : Type 0 where
   pub wanted : v.wanted ≡ w.wanted
   pub notes : v.notes ≡ w.notes
   pub second : v.second ≡ w.second
   pub wire : v.wire ≡ w.wire
 
-pub record OnlyCloses (w : Walk) (words : List ℕ) (y : Acted) : Type 0 where
-  pub like : IsLike w y.walk
+pub record OnlyCloses (w : Workspace) (words : List ℕ) (y : Acted) : Type 0 where
+  pub like : IsLike w y.workspace
   pub words_are : y.words ≡ words
 
-only : (w : Walk) (words : List ℕ) (done : ℕ) (want : Want) (ending : Ending) → OnlyCloses w words (acted (record w { gate = record { done = done }; want = want }) words ending)
+only : (w : Workspace) (words : List ℕ) (done : ℕ) (want : Want) (ending : Ending) → OnlyCloses w words (acted (record w { gate = record { done = done }; want = want }) words ending)
 only w words done want ending = record { like = record { wanted = refl; notes = refl; second = refl; wire = refl }; words_are = refl }
 
-pub closes_only : (phase : Phase) (w : Walk) (words : List ℕ) (want : Want) (to : Place) → Always (OnlyCloses w words) (closes phase w words want to)
+pub closes_only : (phase : Phase) (w : Workspace) (words : List ℕ) (want : Want) (to : Place) → Always (OnlyCloses w words) (closes phase w words want to)
 closes_only phase w words want to = closing_always (OnlyCloses w words) phase w words (λ v. ends (record v { want = want }) words (Leads to))
     (only w words (risen w.gate.done) want (Leads to))
     (only w words w.gate.done w.want (Aborts (Gate w.gate.done)))
 
-take_closes_only : (g : Geometry) (w : Walk) (words : List ℕ) → Always (OnlyCloses w words) (closing_then Take w words (take_wanted g words))
+take_closes_only : (g : Geometry) (w : Workspace) (words : List ℕ) → Always (OnlyCloses w words) (closing_then Take w words (take_wanted g words))
 take_closes_only g w words =
-    let v : Walk = gated w (risen w.gate.done) in
+    let v : Workspace = gated w (risen w.gate.done) in
     closing_always (OnlyCloses w words) Take w words (take_wanted g words)
     (if_always (OnlyCloses w words) (nat_lt v.wanted g.buckets) (ends (record v { want = WantTake v.wanted }) words (Leads (at First 0))) (ends v words (Aborts (Range v.wanted)))
     (only w words (risen w.gate.done) (WantTake v.wanted) (Leads (at First 0)))
     (only w words (risen w.gate.done) w.want (Aborts (Range v.wanted))))
     (only w words w.gate.done w.want (Aborts (Gate w.gate.done)))
 
-pub take_only : (g : Given) (index : ℕ) (w : Walk) (words : List ℕ) → Always (OnlyCloses w words) (take_tree g (suc index) w words)
+pub take_only : (g : Given) (index : ℕ) (w : Workspace) (words : List ℕ) → Always (OnlyCloses w words) (take_tree g (suc index) w words)
 take_only g index w words =
     subst (λ (b : Bool). Always (OnlyCloses w words) (if b then store_wanted g w words else closing_then Take w words (take_wanted g.space.geometry words))) (sym (not_zero index)) (take_closes_only g.space.geometry w words)

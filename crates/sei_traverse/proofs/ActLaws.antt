@@ -5,13 +5,13 @@ use Rattle.sei_fault.specs.declared.place.Phase.{Phase}
 use Rattle.sei_fault.specs.Question.{Question, Answer}
 use Rattle.sei_fault.specs.Tree.{Runs}
 use Rattle.sei_pass.proofs.Public.{some_answer}
-use Rattle.sei_traverse.specs.declared.walk.Walk.{Walk}
+use Rattle.sei_traverse.specs.declared.workspace.Workspace.{Workspace}
 use Rattle.sei_traverse.specs.Acts.{Acted}
 use Rattle.sei_traverse.specs.Given.{Given, given_of}
 use Rattle.sei_stmt.specs.Handling.{Behavior}
 use Rattle.sei_traverse.specs.Step.{act_in, act_tree, Timed}
 
-module _ {S : Type 0} (gives : S → (q : Question) → Answer q → S → Type 0) (told : Option ℕ) (w : Walk) (words : List ℕ) (phase : Phase) (s t : S) (x : Acted) where
+module _ {S : Type 0} (gives : S → (q : Question) → Answer q → S → Type 0) (told : Option ℕ) (w : Workspace) (words : List ℕ) (phase : Phase) (s t : S) (x : Acted) where
   -- one that does not look at the clock
   pub plain_act : (g : Given) → w.place.phase ≡ phase → ((now : ℕ) → Runs gives (act_in g now phase w.place.index w words) s t x) → Timed gives told (λ now. act_tree g now w words) s t x
   plain_act g e r =

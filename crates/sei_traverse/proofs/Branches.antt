@@ -11,7 +11,7 @@ use Rattle.sei_fault.proofs.Public.{runs_bound}
 use Rattle.sei_restore.specs.Undoing.{undo_at}
 use Rattle.sei_compare.specs.Comparing.{tested, entry_tree, codes_tree, word_at, wire_tree}
 use Rattle.sei_traverse.specs.declared.turned.Want.TheVariants.{Nothing}
-use Rattle.sei_traverse.specs.declared.walk.Walk.{Walk}
+use Rattle.sei_traverse.specs.declared.workspace.Workspace.{Workspace}
 use Rattle.sei_traverse.specs.Acts.{Acted, at, closes}
 use Rattle.sei_traverse.specs.Phases.{restore_tree, undone_to, compared, compare_tree, entries_to, outputs_to, verify_tree, verify_copy, word_to, copy_bytes, wire_to}
 
@@ -36,7 +36,7 @@ pub bound_yes : {S R : Type 0} (gives : S → (q : Question) → Answer q → S 
     Runs gives (tested b) s m y → y ≡ true → Runs gives (f true) m t x → Runs gives (bound (tested b) f) s t x
 bound_yes gives b y f s m t x h e r = runs_bound gives (tested b) f s m t y x h (subst (λ (z : Bool). Runs gives (f z) m t x) (sym e) r)
 
-module _ {S : Type 0} (gives : S → (q : Question) → Answer q → S → Type 0) (w : Walk) (words : List ℕ) (index : ℕ) (s t : S) (x : Acted) where
+module _ {S : Type 0} (gives : S → (q : Question) → Answer q → S → Type 0) (w : Workspace) (words : List ℕ) (index : ℕ) (s t : S) (x : Acted) where
   pub restore_closes : length w.first_log.items ≤ index → Runs gives (closes Restore w words Nothing (at Second 0)) s t x → Runs gives (restore_tree index w words) s t x
   restore_closes h r =
       subst (λ (b : Bool). Runs gives (if b then bound (undo_at words (slice_get w.first_log.items (length w.first_log.items - 1 - index))) (undone_to w index) else closes Restore w words Nothing (at Second 0)) s t x)

@@ -14,9 +14,9 @@ use Rattle.sei_stmt.specs.Statements.{now_tree, alloc_by, alloc_tree, statement_
 use Rattle.sei_stmt.proofs.PublicStatementRuns.{looks, plain_repeats, store_repeats, by_statements}
 use Rattle.sei_stmt.proofs.PublicStatementRuns.Looks.{Stores, Times, Slots, Neither}
 use Rattle.sei_pass.specs.State.{PassState}
-use Rattle.sei_traverse.specs.declared.walk.Walk.{Walk}
+use Rattle.sei_traverse.specs.declared.workspace.Workspace.{Workspace}
 use Rattle.sei_traverse.specs.Comes.{at_time, renoted, renoted_end}
-use Rattle.sei_traverse.specs.Errand.{Errand, first_setting, first_start, Whole}
+use Rattle.sei_traverse.specs.CallContext.{CallContext, first_setting, first_start, Whole}
 use Rattle.sei_traverse.specs.Phases.{reply_of}
 use Rattle.sei_traverse.specs.Struck.{IsAimed, IsHonestResult}
 use Rattle.sei_traverse.specs.Trusted.{IsTrusted, second_setting}
@@ -60,7 +60,7 @@ asks_in g k t m (Bad cause) first = refl
 
 -- The second pass by the notes of a whole first one.
 
-module _ (e : Errand) (time made : ℕ) (end : Machine) (whole : Whole e time made end) where
+module _ (e : CallContext) (time made : ℕ) (end : Machine) (whole : Whole e time made end) where
   again_at : (n : ℕ) → n ≤ made → after (second_setting e) (renoted end.notes (first_start e)) n ≡ renoted_end end.notes (after (at_time (first_setting e) time) (first_start e) n)
   again_at n le =
       sym (after_again (first_setting e) time (renoted end.notes (first_start e)) n)
@@ -81,7 +81,7 @@ module _ (e : Errand) (time made : ℕ) (end : Machine) (whole : Whole e time ma
       omega (arith, asked_same n (omega (arith, le)), here, alike)
 
   -- words and a reply that are those of its end are those of an honest run
-  pub answers_whole : (trusted : IsTrusted e) (w : Walk) (words : List ℕ) (asked : ℕ) → IsAimed e w → w.notes ≡ end.notes → words ≡ end.words → reply_of w ≡ end.bytes.items →
+  pub answers_whole : (trusted : IsTrusted e) (w : Workspace) (words : List ℕ) (asked : ℕ) → IsAimed e w → w.notes ≡ end.notes → words ≡ end.words → reply_of w ≡ end.bytes.items →
       first_questions e time made ≤ asked → IsHonestResult e w words asked
   answers_whole trusted w words asked aimed notes are reply questions =
       let read = trusted.reads aimed.fit end.notes end made whole_again in
@@ -102,7 +102,7 @@ module _ (e : Errand) (time made : ℕ) (end : Machine) (whole : Whole e time ma
       }
 
 -- where both passes have come to the same end, the words and the reply are those of an honest run
-pub answers_clean : (e : Errand) → IsTrusted e → (w : Walk) (words : List ℕ) (time made : ℕ) (end : Machine) (asked : ℕ) → IsAimed e w →
+pub answers_clean : (e : CallContext) → IsTrusted e → (w : Workspace) (words : List ℕ) (time made : ℕ) (end : Machine) (asked : ℕ) → IsAimed e w →
     InBoth e w (Some words) time made end asked → IsHonestResult e w words asked
 answers_clean e trusted w words time made end asked aimed b =
     answers_whole e time made end b.whole trusted w words asked aimed b.first.notes (same_Some words end.words b.words)

@@ -10,36 +10,36 @@ use Rattle.sei_gate.specs.Closing.{risen}
 use Rattle.sei_stmt.specs.Machine.{Outcome}
 use Rattle.sei_stmt.specs.Machine.Outcome.{Next, Halted, Bad}
 use Rattle.sei_traverse.specs.declared.turned.Want.TheVariants.{Nothing}
-use Rattle.sei_traverse.specs.declared.walk.Ending.TheVariants.{Leads}
-use Rattle.sei_traverse.specs.declared.walk.Walk.{Walk}
+use Rattle.sei_traverse.specs.declared.workspace.Ending.TheVariants.{Leads}
+use Rattle.sei_traverse.specs.declared.workspace.Workspace.{Workspace}
 use Rattle.sei_traverse.specs.Acts.{Acted, acted, ends, closed_to, closing_then, closes}
 use Rattle.sei_traverse.specs.PassActs.{asked_behind, first_from, second_from}
 use Rattle.sei_traverse.proofs.Branches.{same}
 
--- the walk behind an act that closed a phase
-abbrev pub closed_walk : Walk → Walk
-closed_walk w = record w { gate = record { done = risen w.gate.done } }
+-- the workspace behind an act that closed a phase
+abbrev pub closed_workspace : Workspace → Workspace
+closed_workspace w = record w { gate = record { done = risen w.gate.done } }
 
 -- and where nothing is wanted
-abbrev pub closed : Walk → Walk
+abbrev pub closed : Workspace → Workspace
 closed w = record w { gate = record { done = risen w.gate.done }; want = Nothing }
 
-pub closes_then : (phase : Phase) (w : Walk) (words : List ℕ) (on : Walk → Tree Acted) → w.gate.done ≡ phase_number phase →
-    honest (closing_then phase w words on) ≡ honest (on (closed_walk w))
+pub closes_then : (phase : Phase) (w : Workspace) (words : List ℕ) (on : Workspace → Tree Acted) → w.gate.done ≡ phase_number phase →
+    honest (closing_then phase w words on) ≡ honest (on (closed_workspace w))
 closes_then phase w words on h =
     ap (λ (b : Bool). honest (closed_to w words on (b, if b then risen w.gate.done else w.gate.done))) (same w.gate.done (phase_number phase) h)
 
-pub closes_in_turn : (phase : Phase) (w : Walk) (words : List ℕ) (to : Place) → w.gate.done ≡ phase_number phase → honest (closes phase w words Nothing to) ≡ acted (closed w) words (Leads to)
-closes_in_turn phase w words to h = closes_then phase w words (λ v. ends (record v { want = Nothing }) words (Leads to)) h
+pub closes_in_step : (phase : Phase) (w : Workspace) (words : List ℕ) (to : Place) → w.gate.done ≡ phase_number phase → honest (closes phase w words Nothing to) ≡ acted (closed w) words (Leads to)
+closes_in_step phase w words to h = closes_then phase w words (λ v. ends (record v { want = Nothing }) words (Leads to)) h
 
 -- behind a statement of a pass, no fewer questions are asked than is said
 
-pub first_behind : (w : Walk) (words : List ℕ) (o : Outcome) → asked_behind o ≤ weighed (first_from w words o)
+pub first_behind : (w : Workspace) (words : List ℕ) (o : Outcome) → asked_behind o ≤ weighed (first_from w words o)
 first_behind w words (Next index) = omega arith
 first_behind w words Halted = omega arith
 first_behind w words (Bad cause) = omega arith
 
-pub second_behind : (w : Walk) (words : List ℕ) (o : Outcome) → asked_behind o ≤ weighed (second_from w words o)
+pub second_behind : (w : Workspace) (words : List ℕ) (o : Outcome) → asked_behind o ≤ weighed (second_from w words o)
 second_behind w words (Next index) = omega arith
 second_behind w words Halted = omega arith
 second_behind w words (Bad cause) = omega arith

@@ -22,46 +22,46 @@ use Rattle.sei_pass.specs.State.{PassState, new_pass}
 use Rattle.sei_pass.specs.Steps.{machine_of}
 use Rattle.sei_traverse.specs.declared.turned.Want.{Want}
 use Rattle.sei_traverse.specs.declared.turned.Want.TheVariants.{Nothing, Take as WantTake, Enter as WantEnter, Give as WantGive}
-use Rattle.sei_traverse.specs.declared.walk.Ending.TheVariants.{Leads, Refuses, Aborts}
-use Rattle.sei_traverse.specs.declared.walk.Walk.{Walk}
+use Rattle.sei_traverse.specs.declared.workspace.Ending.TheVariants.{Leads, Refuses, Aborts}
+use Rattle.sei_traverse.specs.declared.workspace.Workspace.{Workspace}
 use Rattle.sei_traverse.specs.Acts.{acted, ends, at, closes}
 use Rattle.sei_traverse.specs.Comes.{Agrees, Comes}
-use Rattle.sei_traverse.specs.Errand.{Errand, TellsTime, Follows, IsErrand, given_in, first_setting, first_start}
+use Rattle.sei_traverse.specs.CallContext.{CallContext, TellsTime, Follows, IsCallContext, given_in, first_setting, first_start}
 use Rattle.sei_traverse.specs.PassActs.{first_machine}
 use Rattle.sei_traverse.specs.Phases.{guard_tree, guard_call, take_tree, take_wanted, send_want}
 use Rattle.sei_traverse.specs.Given.{Given, given_of, has_sealed_call, bucket_of_call, bucket_or_zero}
 use Rattle.sei_traverse.specs.Step.{act_in, site_in, plain_below}
 use Rattle.sei_traverse.specs.Unstruck.{take_want, NextIn, IsOf, FirstIsNew, SecondIsNew, SecondIsDone, InGuard, InTake, WantedAt, FirstWaits, FirstRuns, InBoth, InEnter, InGive, HasOutput, InSend, InDone, IsFinished}
 use Rattle.sei_traverse.proofs.Branches.{below}
-use Rattle.sei_traverse.proofs.Closes.{closed_walk, closes_then}
+use Rattle.sei_traverse.proofs.Closes.{closed_workspace, closes_then}
 use Rattle.sei_traverse.proofs.GoesOn.{GoesOn}
 use Rattle.sei_traverse.proofs.TimeLaws.{comes_start}
 
 -- what a step is given where this bucket is lent
-abbrev lending : Errand → Option ℕ → Given
+abbrev lending : CallContext → Option ℕ → Given
 lending e bucket = given_of e.behavior e.input e.space bucket
 
-abbrev behind : Walk → Want → Place → Walk
+abbrev behind : Workspace → Want → Place → Workspace
 behind w want to = record w { gate = record { done = risen w.gate.done }; want = want; place = to }
 
 -- What stays through such an act.
 
-is_next : (e : Errand) (w : Walk) (want : Want) (to : Place) (phase next : Phase) → risen (phase_number phase) ≡ phase_number next → IsOf e w phase → IsOf e (behind w want to) next
+is_next : (e : CallContext) (w : Workspace) (want : Want) (to : Place) (phase next : Phase) → risen (phase_number phase) ≡ phase_number next → IsOf e w phase → IsOf e (behind w want to) next
 is_next e w want to phase next more is = record { sealed = is.sealed; gate = ap risen is.gate ∙ more }
 
-first_new : (e : Errand) (w : Walk) (want : Want) (to : Place) → FirstIsNew e w → FirstIsNew e (behind w want to)
+first_new : (e : CallContext) (w : Workspace) (want : Want) (to : Place) → FirstIsNew e w → FirstIsNew e (behind w want to)
 first_new e w want to new = record { first = new.first; first_log = new.first_log; notes = new.notes }
 
-second_new : (e : Errand) (w : Walk) (want : Want) (to : Place) → SecondIsNew e w → SecondIsNew e (behind w want to)
+second_new : (e : CallContext) (w : Workspace) (want : Want) (to : Place) → SecondIsNew e w → SecondIsNew e (behind w want to)
 second_new e w want to new = record { second = new.second; second_log = new.second_log }
 
-second_done : (e : Errand) (w : Walk) (want : Want) (to : Place) (end : Machine) → SecondIsDone e w end → SecondIsDone e (behind w want to) end
+second_done : (e : CallContext) (w : Workspace) (want : Want) (to : Place) (end : Machine) → SecondIsDone e w end → SecondIsDone e (behind w want to) end
 second_done e w want to end done = record { second = done.second; second_log = done.second_log }
 
 none_more : (asked : ℕ) → asked + 0 ≡ asked
 none_more asked = omega arith
 
-both_stay : (e : Errand) (w : Walk) (lent : Option (List ℕ)) (want : Want) (to : Place) (time made : ℕ) (end : Machine) (asked : ℕ) → InBoth e w lent time made end asked → InBoth e (behind w want to) lent time made end (asked + 0)
+both_stay : (e : CallContext) (w : Workspace) (lent : Option (List ℕ)) (want : Want) (to : Place) (time made : ℕ) (end : Machine) (asked : ℕ) → InBoth e w lent time made end asked → InBoth e (behind w want to) lent time made end (asked + 0)
 both_stay e w lent want to time made end asked both = record {
   whole = both.whole;
   first = record { first = both.first.first; first_log = both.first.first_log; notes = both.first.notes };
@@ -70,7 +70,7 @@ both_stay e w lent want to time made end asked both = record {
   questions = omega (arith, both.questions);
 }
 
-answered_stays : (e : Errand) (w : Walk) (want : Want) (to : Place) (time made : ℕ) (end : Machine) (asked : ℕ) → HasOutput e w time made end asked → HasOutput e (behind w want to) time made end asked
+answered_stays : (e : CallContext) (w : Workspace) (want : Want) (to : Place) (time made : ℕ) (end : Machine) (asked : ℕ) → HasOutput e w time made end asked → HasOutput e (behind w want to) time made end asked
 answered_stays e w want to time made end asked answered = record {
   whole = answered.whole;
   second = second_done e w want to end answered.second;
@@ -85,20 +85,20 @@ plain_first index h = ap (plain_below 1) h
 
 -- Guard
 
-guard_passes : (g : Given) (w : Walk) (words : List ℕ) → is_intact w.sealed g.input ≡ true → has_sealed_call g w.sealed ≡ true → w.gate.done ≡ 0 →
-    honest (guard_tree g w words) ≡ acted (record (closed_walk w) { want = Nothing }) words (Leads (at Take 0))
+guard_passes : (g : Given) (w : Workspace) (words : List ℕ) → is_intact w.sealed g.input ≡ true → has_sealed_call g w.sealed ≡ true → w.gate.done ≡ 0 →
+    honest (guard_tree g w words) ≡ acted (record (closed_workspace w) { want = Nothing }) words (Leads (at Take 0))
 guard_passes g w words intact has gate =
     ap (λ (yes : Bool). honest (if yes then guard_call g w words else ends w words Refuses)) intact
     ∙ ap (λ (yes : Bool). honest (if yes then closes Guard w words Nothing (at Take 0) else ends w words Refuses)) has
     ∙ closes_then Guard w words (λ v. ends (record v { want = Nothing }) words (Leads (at Take 0))) gate
 
 -- Guard lets a call of the sealed input pass
-pub guard_on : (e : Errand) (ie : IsErrand e) (now : ℕ) (bucket : Option ℕ) (w : Walk) (words : List ℕ) (steps asked : ℕ) → InGuard e w steps asked →
+pub guard_on : (e : CallContext) (ie : IsCallContext e) (now : ℕ) (bucket : Option ℕ) (w : Workspace) (words : List ℕ) (steps asked : ℕ) → InGuard e w steps asked →
     GoesOn e (given_of e.behavior e.input e.space bucket) now Guard w words (λ left. None) steps asked
 guard_on e ie now bucket w words steps asked i = record {
   act = Plain;
   site = plain_first w.place.index i.index;
-  walk = record (closed_walk w) { want = Nothing };
+  workspace = record (closed_workspace w) { want = Nothing };
   left = words;
   to = at Take 0;
   next = refl;
@@ -117,33 +117,33 @@ guard_on e ie now bucket w words steps asked i = record {
   };
 }
 
-refuses_second : (b : Bool) (g : Given) (w : Walk) (words : List ℕ) → has_sealed_call g w.sealed ≡ false → honest (if b then guard_call g w words else ends w words Refuses) ≡ acted w words Refuses
+refuses_second : (b : Bool) (g : Given) (w : Workspace) (words : List ℕ) → has_sealed_call g w.sealed ≡ false → honest (if b then guard_call g w words else ends w words Refuses) ≡ acted w words Refuses
 refuses_second true g w words h = ap (λ (yes : Bool). honest (if yes then closes Guard w words Nothing (at Take 0) else ends w words Refuses)) h
 refuses_second false g w words h = refl
 
-refuses : (g : Given) (w : Walk) (words : List ℕ) → (is_intact w.sealed g.input ≡ false) ⊎ (has_sealed_call g w.sealed ≡ false) → honest (guard_tree g w words) ≡ acted w words Refuses
+refuses : (g : Given) (w : Workspace) (words : List ℕ) → (is_intact w.sealed g.input ≡ false) ⊎ (has_sealed_call g w.sealed ≡ false) → honest (guard_tree g w words) ≡ acted w words Refuses
 refuses g w words (inl h) = ap (λ (yes : Bool). honest (if yes then guard_call g w words else ends w words Refuses)) h
 refuses g w words (inr h) = refuses_second (is_intact w.sealed g.input) g w words h
 
 -- Guard refuses an input that is not the sealed one, or that doesn't have the sealed call
-pub refused : (g : Given) (w : Walk) (words : List ℕ) → w.place.index ≡ 0 → (is_intact w.sealed g.input ≡ false) ⊎ (has_sealed_call g w.sealed ≡ false) →
+pub refused : (g : Given) (w : Workspace) (words : List ℕ) → w.place.index ≡ 0 → (is_intact w.sealed g.input ≡ false) ⊎ (has_sealed_call g w.sealed ≡ false) →
     (site_in g.behavior w Guard w.place.index ≡ Some Plain) × (honest (guard_tree g w words) ≡ acted w words Refuses)
 refused g w words index h = (plain_first w.place.index index, refuses g w words h)
 
 -- Take
 
-take_takes : (g : Given) (w : Walk) (words : List ℕ) (index : ℕ) → index ≡ 0 → honest (take_tree g index w words) ≡ acted (record w { wanted = bucket_of_call g w.sealed }) words (Leads (at Take 1))
+take_takes : (g : Given) (w : Workspace) (words : List ℕ) (index : ℕ) → index ≡ 0 → honest (take_tree g index w words) ≡ acted (record w { wanted = bucket_of_call g w.sealed }) words (Leads (at Take 1))
 take_takes g w words index h = ap (λ (n : ℕ). honest (take_tree g n w words)) h
 
-take_wants : (g : Given) (w : Walk) (words : List ℕ) (index : ℕ) → index ≡ 1 → w.gate.done ≡ 1 → w.wanted < g.space.geometry.buckets →
-    honest (take_tree g index w words) ≡ acted (record (closed_walk w) { want = WantTake w.wanted }) words (Leads (at First 0))
+take_wants : (g : Given) (w : Workspace) (words : List ℕ) (index : ℕ) → index ≡ 1 → w.gate.done ≡ 1 → w.wanted < g.space.geometry.buckets →
+    honest (take_tree g index w words) ≡ acted (record (closed_workspace w) { want = WantTake w.wanted }) words (Leads (at First 0))
 take_wants g w words index h gate small =
     ap (λ (n : ℕ). honest (take_tree g n w words)) h
     ∙ closes_then Take w words (take_wanted g.space.geometry words) gate
-    ∙ ap (λ (yes : Bool). honest (if yes then ends (record (closed_walk w) { want = WantTake w.wanted }) words (Leads (at First 0)) else ends (closed_walk w) words (Aborts (Range w.wanted))))
+    ∙ ap (λ (yes : Bool). honest (if yes then ends (record (closed_workspace w) { want = WantTake w.wanted }) words (Leads (at First 0)) else ends (closed_workspace w) words (Aborts (Range w.wanted))))
     (below w.wanted g.space.geometry.buckets small)
 
-module _ (e : Errand) (ie : IsErrand e) (now : ℕ) (bucket : Option ℕ) (w : Walk) (words : List ℕ) (steps asked : ℕ) (nothing : w.want ≡ Nothing) (i : InTake e w steps asked) where
+module _ (e : CallContext) (ie : IsCallContext e) (now : ℕ) (bucket : Option ℕ) (w : Workspace) (words : List ℕ) (steps asked : ℕ) (nothing : w.want ≡ Nothing) (i : InTake e w steps asked) where
   call_bucket : bucket_of_call (lending e bucket) w.sealed ≡ e.call.bucket
   call_bucket = ap (λ (s : Sealed). bucket_of_call (lending e bucket) s) i.is.sealed ∙ ap (λ (o : Option Parsed). bucket_or_zero (parsed_bucket o)) ie.called
 
@@ -151,7 +151,7 @@ module _ (e : Errand) (ie : IsErrand e) (now : ℕ) (bucket : Option ℕ) (w : W
   take_zero h = record {
     act = Plain;
     site = ap (plain_below 2) h;
-    walk = record w { wanted = bucket_of_call (lending e bucket) w.sealed };
+    workspace = record w { wanted = bucket_of_call (lending e bucket) w.sealed };
     left = words;
     to = at Take 1;
     next = subst (λ (n : ℕ). NextIn Take n Take) (sym h) refl;
@@ -176,7 +176,7 @@ module _ (e : Errand) (ie : IsErrand e) (now : ℕ) (bucket : Option ℕ) (w : W
       record {
         act = Plain;
         site = ap (plain_below 2) h;
-        walk = record (closed_walk w) { want = WantTake w.wanted };
+        workspace = record (closed_workspace w) { want = WantTake w.wanted };
         left = words;
         to = at First 0;
         next = subst (λ (n : ℕ). NextIn Take n First) (sym h) refl;
@@ -220,7 +220,7 @@ start_at None g start blank fits c = record { comes = c; told = search }
 start_at (Some t) g start blank fits c = record { comes = record { time = t; agrees = subst (λ o. Agrees o t) (sym blank) fits; run = c.run; asked = c.asked }; told = refl }
 
 -- a traversal that waits there may be lent the words that were taken
-pub lends : (e : Errand) (w : Walk) (steps asked : ℕ) → TellsTime e.clock → FirstWaits e w steps asked → FirstRuns e w e.taken steps asked
+pub lends : (e : CallContext) (w : Workspace) (steps asked : ℕ) → TellsTime e.clock → FirstWaits e w steps asked → FirstRuns e w e.taken steps asked
 lends e w steps asked fits i =
     let machine : first_machine w e.taken ≡ first_start e =
     ap (λ (p : PassState). machine_of p e.taken w.first_log w.notes) i.first.first
@@ -243,13 +243,13 @@ some_one a b h = ap (λ (o : Option (List ℕ)). elim o [ None ↦ a | Some x �
 
 -- Enter, Give, Send and Done
 
-module _ (e : Errand) (now : ℕ) (w : Walk) (words : List ℕ) (steps asked : ℕ) where
+module _ (e : CallContext) (now : ℕ) (w : Workspace) (words : List ℕ) (steps asked : ℕ) where
   -- Enter wants the call to be entered
   pub enter_on : InEnter e w (Some words) steps asked → GoesOn e (given_in e) now Enter w words (λ left. Some left) steps asked
   enter_on i = record {
     act = Plain;
     site = plain_first w.place.index i.index;
-    walk = record (closed_walk w) { want = WantEnter };
+    workspace = record (closed_workspace w) { want = WantEnter };
     left = words;
     to = at Give 0;
     next = tt;
@@ -274,7 +274,7 @@ module _ (e : Errand) (now : ℕ) (w : Walk) (words : List ℕ) (steps asked : �
   give_on i = record {
     act = Plain;
     site = plain_first w.place.index i.index;
-    walk = record (closed_walk w) { want = WantGive };
+    workspace = record (closed_workspace w) { want = WantGive };
     left = words;
     to = at Send 0;
     next = refl;
@@ -307,7 +307,7 @@ module _ (e : Errand) (now : ℕ) (w : Walk) (words : List ℕ) (steps asked : �
       record {
         act = Plain;
         site = plain_first w.place.index i.index;
-        walk = record (closed_walk w) { want = want };
+        workspace = record (closed_workspace w) { want = want };
         left = words;
         to = at Done 0;
         next = refl;
@@ -327,22 +327,22 @@ module _ (e : Errand) (now : ℕ) (w : Walk) (words : List ℕ) (steps asked : �
       }
 
 -- the act leads to the end, where the traversal is finished
-pub record Finishes (e : Errand) (g : Given) (now : ℕ) (phase : Phase) (w : Walk) (words : List ℕ) (steps asked : ℕ) : Type 0 where
+pub record Finishes (e : CallContext) (g : Given) (now : ℕ) (phase : Phase) (w : Workspace) (words : List ℕ) (steps asked : ℕ) : Type 0 where
   pub act : Act
   pub site : site_in g.behavior w phase w.place.index ≡ Some act
-  pub walk : Walk
+  pub workspace : Workspace
   pub left : List ℕ
-  pub acts : honest (act_in g now phase w.place.index w words) ≡ acted walk left (Leads (at Done 1))
-  pub want : walk.want ≡ Nothing
-  pub finished : IsFinished e (record walk { place = at Done 1 }) (suc steps) asked
+  pub acts : honest (act_in g now phase w.place.index w words) ≡ acted workspace left (Leads (at Done 1))
+  pub want : workspace.want ≡ Nothing
+  pub finished : IsFinished e (record workspace { place = at Done 1 }) (suc steps) asked
 
 -- Done leads to the end
-pub done_on : (e : Errand) (now : ℕ) (bucket : Option ℕ) (w : Walk) (words : List ℕ) (steps asked : ℕ) → InDone e w steps asked →
+pub done_on : (e : CallContext) (now : ℕ) (bucket : Option ℕ) (w : Workspace) (words : List ℕ) (steps asked : ℕ) → InDone e w steps asked →
     Finishes e (given_of e.behavior e.input e.space bucket) now Done w words steps asked
 done_on e now bucket w words steps asked i = record {
   act = Plain;
   site = plain_first w.place.index i.index;
-  walk = record (closed_walk w) { want = Nothing };
+  workspace = record (closed_workspace w) { want = Nothing };
   left = words;
   acts = closes_then Done w words (λ v. ends (record v { want = Nothing }) words (Leads (at Done 1))) i.is.gate;
   want = refl;

@@ -14,9 +14,9 @@ use Rattle.sei_stmt.specs.Machine.Outcome.{Halted, Bad}
 use Rattle.sei_stmt.specs.Passes.{notes_of}
 use Rattle.sei_stmt.specs.Statements.{is_lent, bucket_if, call_if, intact_if, parse_tree, count_if, found_tree}
 use Rattle.sei_stmt.proofs.Public.{halts_or_aborts}
-use Rattle.sei_traverse.specs.declared.walk.Walk.{Walk}
+use Rattle.sei_traverse.specs.declared.workspace.Workspace.{Workspace}
 use Rattle.sei_traverse.specs.Comes.{renoted}
-use Rattle.sei_traverse.specs.Errand.{Errand, given_in, first_start}
+use Rattle.sei_traverse.specs.CallContext.{CallContext, given_in, first_start}
 use Rattle.sei_traverse.specs.PassActs.{second_machine}
 use Rattle.sei_traverse.specs.Given.{call_of}
 use Rattle.sei_traverse.specs.Struck.{IsNoted, IsHonestResult, ComesOn, setting_on, start_on}
@@ -80,7 +80,7 @@ some_of : {A : Type 0} (o : Option A) → is_some o ≡ true → (x : A) × (o �
 some_of None h = absurd (let z : ⊥ = cc in z)
 some_of (Some x) h = (x, refl)
 
-module _ (e : Errand) (trusted : IsTrusted e) (w : Walk) (passed : Passed (setting_on e w.wanted)) where
+module _ (e : CallContext) (trusted : IsTrusted e) (w : Workspace) (passed : Passed (setting_on e w.wanted)) where
   has_call : (p : Parsed) × (call_of (given_in e) e.sealed ≡ Some p)
   has_call = some_of (call_of (given_in e) e.sealed) passed.parsed
 
@@ -95,7 +95,7 @@ module _ (e : Errand) (trusted : IsTrusted e) (w : Walk) (passed : Passed (setti
       eqb-true w.wanted e.call.bucket lent
 
 -- the words and the output that it leaves are those of an honest run
-pub good_answers : (e : Errand) → IsTrusted e → (w : Walk) (words : List ℕ) (asked n : ℕ) → IsNoted e w.notes.now → ComesOn e w e.taken words Halted n →
+pub good_answers : (e : CallContext) → IsTrusted e → (w : Workspace) (words : List ℕ) (asked n : ℕ) → IsNoted e w.notes.now → ComesOn e w e.taken words Halted n →
     first_weighed (setting_on e w.wanted) (start_on e e.taken w.notes) n + 1 ≤ asked → IsHonestResult e w words asked
 good_answers e trusted w words asked n small comes asks =
     let passed = halted_passed (setting_on e w.wanted) (start_on e e.taken w.notes) (second_machine w words) n trusted.parses (record { halts = comes }) in

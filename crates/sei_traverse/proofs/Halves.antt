@@ -7,9 +7,9 @@ use Rattle.sei_pass.specs.State.{PassState}
 use Rattle.sei_stmt.specs.Machine.{Machine}
 use Rattle.sei_traverse.specs.declared.turned.Want.{Want}
 use Rattle.sei_traverse.specs.declared.turned.Want.TheVariants.{Nothing}
-use Rattle.sei_traverse.specs.declared.walk.Walk.{Walk}
-use Rattle.sei_traverse.specs.Errand.{Errand, Whole}
-use Rattle.sei_traverse.specs.Facts.{Knows, Wanted, closing_want, IsLikeWalk}
+use Rattle.sei_traverse.specs.declared.workspace.Workspace.{Workspace}
+use Rattle.sei_traverse.specs.CallContext.{CallContext, Whole}
+use Rattle.sei_traverse.specs.FaultInvariant.{Knows, Wanted, closing_want, IsLikeWorkspace}
 use Rattle.sei_traverse.specs.Phases.{reply_of, send_want}
 use Rattle.sei_traverse.specs.Struck.{IsAimed, IsHonestResult, HasCopyOfSome, On}
 use Rattle.sei_traverse.specs.Trusted.{IsTrusted}
@@ -20,14 +20,14 @@ use Rattle.sei_traverse.proofs.CleanAnswers.{answers_whole}
 use Rattle.sei_traverse.proofs.StepEnds.{same_phase}
 
 -- what is wanted is so with a number of questions of which twice were asked
-abbrev pub Halved : Errand → Walk → Option (List ℕ) → ℕ → Want → Type 0
+abbrev pub Halved : CallContext → Workspace → Option (List ℕ) → ℕ → Want → Type 0
 Halved e w lent asked want = (n : ℕ) × (2 * n ≤ asked) × Wanted e w lent n want
 
 -- where nothing is wanted, nothing is said of the number
-halved_nothing : (e : Errand) (w : Walk) (lent : Option (List ℕ)) (asked : ℕ) (want : Want) → want ≡ Nothing → Halved e w lent asked want
+halved_nothing : (e : CallContext) (w : Workspace) (lent : Option (List ℕ)) (asked : ℕ) (want : Want) → want ≡ Nothing → Halved e w lent asked want
 halved_nothing e w lent asked want none = (0, omega arith, subst (λ (n : Want). Wanted e w lent 0 n) (sym none) tt)
 
-module _ (e : Errand) (trusted : IsTrusted e) (w : Walk) (time made : ℕ) (end : Machine) (aimed : IsAimed e w) where
+module _ (e : CallContext) (trusted : IsTrusted e) (w : Workspace) (time made : ℕ) (end : Machine) (aimed : IsAimed e w) where
   -- the answers of a clean second pass, with the questions of the first one alone
   answers_half : Whole e time made end → SecondIsDone e w end → w.notes ≡ end.notes → IsHonestResult e w end.words (first_questions e time made)
   answers_half whole second notes =
@@ -39,8 +39,8 @@ module _ (e : Errand) (trusted : IsTrusted e) (w : Walk) (time made : ℕ) (end 
     answered = record { answers = answers_half i.whole i.second i.notes; wire = i.copy ∙ sym (ap (λ (p : PassState). p.bytes.items) i.second.second) };
   }
 
--- a walk from which nothing was changed
-module _ (e : Errand) (trusted : IsTrusted e) (w v : Walk) (like : IsLikeWalk w v) (lent left : Option (List ℕ)) (same : left ≡ lent) (aimed : IsAimed e w) (time made : ℕ) (end : Machine) (asked : ℕ) where
+-- a workspace from which nothing was changed
+module _ (e : CallContext) (trusted : IsTrusted e) (w v : Workspace) (like : IsLikeWorkspace w v) (lent left : Option (List ℕ)) (same : left ≡ lent) (aimed : IsAimed e w) (time made : ℕ) (end : Machine) (asked : ℕ) where
   aimed_on : IsAimed e v
   aimed_on = record { fit = aimed.fit; wanted = like.wanted ∙ aimed.wanted }
 
@@ -65,8 +65,8 @@ module _ (e : Errand) (trusted : IsTrusted e) (w v : Walk) (like : IsLikeWalk w 
   send_half i [] number wanted = (0, omega arith, tt)
   send_half i (byte ∷ bytes) number wanted = (first_questions e time made, i.questions, (sends_half e trusted v time made end aimed_on asked (answered_on i), wanted.1))
 
-module _ (e : Errand) (trusted : IsTrusted e) (w v : Walk) (lent left : Option (List ℕ)) (steps asked number : ℕ) where
-  closing_half : (p : Phase) → (7 ≤ phase_number p → IsLikeWalk w v × (left ≡ lent)) → CleanIn e w lent steps asked p → Knows e w p → Wanted e v left number (closing_want v p) → Halved e v left asked (closing_want v p)
+module _ (e : CallContext) (trusted : IsTrusted e) (w v : Workspace) (lent left : Option (List ℕ)) (steps asked number : ℕ) where
+  closing_half : (p : Phase) → (7 ≤ phase_number p → IsLikeWorkspace w v × (left ≡ lent)) → CleanIn e w lent steps asked p → Knows e w p → Wanted e v left number (closing_want v p) → Halved e v left asked (closing_want v p)
   closing_half Guard still i knows wanted = (0, omega arith, tt)
   closing_half Take still i knows wanted = (0, omega arith, wanted)
   closing_half First still i knows wanted = (0, omega arith, tt)
@@ -86,7 +86,7 @@ module _ (e : Errand) (trusted : IsTrusted e) (w v : Walk) (lent left : Option (
   closing_half Done still i knows wanted = (0, omega arith, tt)
 
   -- what a step wants without a strike is so with half of the questions that were asked before it
-  pub halves : (ended : Type 0) → w.gate.done ≡ phase_number w.place.phase → (7 ≤ w.gate.done → IsLikeWalk w v × (left ≡ lent)) → CleanIn e w lent steps asked w.place.phase → Knows e w w.place.phase →
+  pub halves : (ended : Type 0) → w.gate.done ≡ phase_number w.place.phase → (7 ≤ w.gate.done → IsLikeWorkspace w v × (left ≡ lent)) → CleanIn e w lent steps asked w.place.phase → Knows e w w.place.phase →
       ClosesNext e w.gate.done v ended → Wanted e v left number v.want → Halved e v left asked v.want
   halves ended gate still clean knows (Stays at none) wanted = halved_nothing e v left asked v.want none
   halves ended gate still clean knows (Closes phase is at want) wanted =

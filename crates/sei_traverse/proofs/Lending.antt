@@ -3,14 +3,14 @@ use Rattle.std.proofs.Common.{◌≡◌, ℕ, ◌+◌, List, [], ◌∷◌, Opti
 use Rattle.sei_fault.specs.declared.place.Phase.{Phase}
 use Rattle.sei_fault.specs.declared.place.Phase.TheVariants.{Guard, Take, First, Restore, Second, Compare, Verify, Enter, Give, Send, Done}
 use Rattle.sei_fault.specs.Phases.{phase_number}
-use Rattle.sei_words.specs.Loan.{words_of, place_of, Place as LentPlace}
+use Rattle.sei_words.specs.LentBucket.{words_of, place_of, Place as LentPlace}
 use Rattle.sei_words.specs.Words.{BucketWords}
 use Rattle.sei_traverse.specs.declared.turned.State.{State}
 use Rattle.sei_traverse.specs.declared.turned.State.TheVariants.{Went}
-use Rattle.sei_traverse.specs.declared.walk.Walk.{Walk}
-use Rattle.sei_traverse.specs.Errand.{Errand}
-use Rattle.sei_traverse.specs.Facts.{IsRight, LendsWanted, LendsOn, WantsBucket, Wanted, closing_want, ClosesOnce, IsAborted}
-use Rattle.sei_traverse.specs.Facts.ClosesOnce.{Stays, Closes, Lacks}
+use Rattle.sei_traverse.specs.declared.workspace.Workspace.{Workspace}
+use Rattle.sei_traverse.specs.CallContext.{CallContext}
+use Rattle.sei_traverse.specs.FaultInvariant.{IsRight, LendsWanted, LendsOn, WantsBucket, Wanted, closing_want, ClosesOnce, IsAborted}
+use Rattle.sei_traverse.specs.FaultInvariant.ClosesOnce.{Stays, Closes, Lacks}
 use Rattle.sei_traverse.specs.OnWay.{lent_words, LendsBucket, LendsBucketOf, LendsIn}
 use Rattle.sei_traverse.specs.Phases.{reply_of, send_want}
 use Rattle.sei_traverse.specs.Struck.{IsHonestResult, On}
@@ -21,10 +21,10 @@ use Rattle.sei_traverse.proofs.Onward.{left_of, still_lent}
 use Rattle.sei_traverse.proofs.StepEnds.{same_phase, small_number}
 use Rattle.sei_traverse.proofs.StepLaws.{lends_again, lent_is_left}
 
--- What is left of a loan.
+-- What is left of a lent bucket.
 
-none_left : (loan left : Option BucketWords) → place_of left ≡ place_of loan → loan ≡ None → left ≡ None
-none_left loan None place h = refl
+none_left : (lent_bucket left : Option BucketWords) → place_of left ≡ place_of lent_bucket → lent_bucket ≡ None → left ≡ None
+none_left lent_bucket None place h = refl
 none_left None (Some b) place h = absurd cc
 none_left (Some a) (Some b) place h = absurd cc
 
@@ -36,31 +36,31 @@ same_bucket : (a b : BucketWords) → place_of (Some b) ≡ place_of (Some a) �
 unfolding bucket_at
 same_bucket a b place = ap bucket_at place
 
-bucket_left : (wanted : ℕ) (loan left : Option BucketWords) → place_of left ≡ place_of loan → LendsBucketOf wanted loan → LendsBucketOf wanted left
+bucket_left : (wanted : ℕ) (lent_bucket left : Option BucketWords) → place_of left ≡ place_of lent_bucket → LendsBucketOf wanted lent_bucket → LendsBucketOf wanted left
 bucket_left wanted None left place h = absurd h
 bucket_left wanted (Some a) None place h = absurd cc
 bucket_left wanted (Some a) (Some b) place h = same_bucket a b place ∙ h
 
-lends_left : (p : Phase) (wanted : ℕ) (loan left : Option BucketWords) → place_of left ≡ place_of loan → LendsIn wanted p loan → LendsIn wanted p left
-lends_left Guard wanted loan left place h = none_left loan left place h
-lends_left Take wanted loan left place h = none_left loan left place h
-lends_left Send wanted loan left place h = none_left loan left place h
-lends_left Done wanted loan left place h = none_left loan left place h
-lends_left First wanted loan left place h = bucket_left wanted loan left place h
-lends_left Restore wanted loan left place h = bucket_left wanted loan left place h
-lends_left Second wanted loan left place h = bucket_left wanted loan left place h
-lends_left Compare wanted loan left place h = bucket_left wanted loan left place h
-lends_left Verify wanted loan left place h = bucket_left wanted loan left place h
-lends_left Enter wanted loan left place h = bucket_left wanted loan left place h
-lends_left Give wanted loan left place h = bucket_left wanted loan left place h
+lends_left : (p : Phase) (wanted : ℕ) (lent_bucket left : Option BucketWords) → place_of left ≡ place_of lent_bucket → LendsIn wanted p lent_bucket → LendsIn wanted p left
+lends_left Guard wanted lent_bucket left place h = none_left lent_bucket left place h
+lends_left Take wanted lent_bucket left place h = none_left lent_bucket left place h
+lends_left Send wanted lent_bucket left place h = none_left lent_bucket left place h
+lends_left Done wanted lent_bucket left place h = none_left lent_bucket left place h
+lends_left First wanted lent_bucket left place h = bucket_left wanted lent_bucket left place h
+lends_left Restore wanted lent_bucket left place h = bucket_left wanted lent_bucket left place h
+lends_left Second wanted lent_bucket left place h = bucket_left wanted lent_bucket left place h
+lends_left Compare wanted lent_bucket left place h = bucket_left wanted lent_bucket left place h
+lends_left Verify wanted lent_bucket left place h = bucket_left wanted lent_bucket left place h
+lends_left Enter wanted lent_bucket left place h = bucket_left wanted lent_bucket left place h
+lends_left Give wanted lent_bucket left place h = bucket_left wanted lent_bucket left place h
 
 -- what is left of the same words is the same
-pub same_words : (loan left : Option BucketWords) → place_of left ≡ place_of loan → words_of left ≡ words_of loan → lent_words left ≡ lent_words loan
-same_words loan left place h = sym (still_lent loan left (words_of left) place refl) ∙ ap (left_of loan) h ∙ sym (lent_is_left loan)
+pub same_words : (lent_bucket left : Option BucketWords) → place_of left ≡ place_of lent_bucket → words_of left ≡ words_of lent_bucket → lent_words left ≡ lent_words lent_bucket
+same_words lent_bucket left place h = sym (still_lent lent_bucket left (words_of left) place refl) ∙ ap (left_of lent_bucket) h ∙ sym (lent_is_left lent_bucket)
 
 -- Where the gate is right.
 
-module _ (e : Errand) (old new : Walk) (right : IsRight old) (loan left : Option BucketWords) (place : place_of left ≡ place_of loan) (lends : LendsWanted old loan)
+module _ (e : CallContext) (old new : Workspace) (right : IsRight old) (lent_bucket left : Option BucketWords) (place : place_of left ≡ place_of lent_bucket) (lends : LendsWanted old lent_bucket)
     (kept : IsNoStore old.place.phase old.place.index → new.wanted ≡ old.wanted) where
   -- only the phase of the place is closed
   pub closes_once : (ended : Type 0) → ClosesNext e old.gate.done new ended → ClosesOnce e old new ended
@@ -70,7 +70,7 @@ module _ (e : Errand) (old new : Walk) (right : IsRight old) (loan left : Option
 
   -- what is left is what its phase asks for
   still_lends : LendsIn new.wanted old.place.phase left
-  still_lends = lends_left old.place.phase new.wanted loan left place (lends_again old.place.phase old.place.index old.wanted new.wanted loan kept (lends right))
+  still_lends = lends_left old.place.phase new.wanted lent_bucket left place (lends_again old.place.phase old.place.index old.wanted new.wanted lent_bucket kept (lends right))
 
   -- in the next phase
   next_lends : (q : Phase) → LendsIn new.wanted q left → new.gate.done ≡ phase_number q → LendsWanted new left

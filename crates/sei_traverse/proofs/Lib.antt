@@ -8,9 +8,9 @@ pub mod Branches
 pub mod Closes
 pub mod GoesOn
 pub mod ActLaws
-pub mod TurnLaws
+pub mod StepResultLaws
 pub mod EdgeActs
-pub mod HonestTurn
+pub mod HonestStep
 pub mod PassOnward
 pub mod MiddleActs
 pub mod Onward
@@ -28,7 +28,7 @@ pub mod LostSteps
 pub mod Lending
 pub mod Halves
 pub mod Isolation
-pub mod FactsLaws
+pub mod FaultInvariantLaws
 pub mod CleanAnswers
 pub mod GoodAnswers
 pub mod LostActs
@@ -47,8 +47,8 @@ pub mod CountLaws
 pub mod WantingLaws
 pub mod SmallNotes
 pub mod WordsLast
-pub mod PublicWalkKept
-pub mod PublicLoans
+pub mod PublicWorkspaceKept
+pub mod PublicLentBuckets
 pub mod Making
 pub mod Lift
 pub mod Resting

@@ -1,4 +1,4 @@
--- What is known of a walk that was struck is known of one that differs in what it does not speak of.
+-- What is known of a workspace that was struck is known of one that differs in what it does not speak of.
 use Rattle.std.proofs.Common.{ℕ, List, Option, Some, None, sym, ap, ◌∙◌, refl}
 use Rattle.sei_fault.specs.declared.place.Phase.{Phase}
 use Rattle.sei_fault.specs.declared.place.Phase.TheVariants.{Guard, Take, First, Restore, Second, Compare, Verify, Enter, Give, Send, Done}
@@ -7,9 +7,9 @@ use Rattle.sei_stmt.specs.Machine.{Machine, Outcome}
 use Rattle.sei_pass.specs.State.{PassState}
 use Rattle.sei_traverse.specs.declared.turned.Want.{Want}
 use Rattle.sei_traverse.specs.declared.turned.Want.TheVariants.{Nothing, Take as WantTake, Enter as WantEnter, Give as WantGive, Send as WantSend}
-use Rattle.sei_traverse.specs.declared.walk.Walk.{Walk}
-use Rattle.sei_traverse.specs.Errand.{Errand}
-use Rattle.sei_traverse.specs.Facts.{Wanted}
+use Rattle.sei_traverse.specs.declared.workspace.Workspace.{Workspace}
+use Rattle.sei_traverse.specs.CallContext.{CallContext}
+use Rattle.sei_traverse.specs.FaultInvariant.{Wanted}
 use Rattle.sei_traverse.specs.Struck.{IsAimed, IsHonestResult, FirstStruck, FirstStands, WasHonest, WasMisread, RestoreStruck, SecondStruck, CompareStruck, WordsStruck, VerifyStruck, HasCopy, HasCopyOfSome, On, StruckIn}
 use Rattle.sei_traverse.specs.Struck.FirstStruck.{Restorable, Misread}
 use Rattle.sei_traverse.specs.Struck.RestoreStruck.{Restorable as RestorableR, Misread as MisreadR, Damaged as DamagedR}
@@ -25,7 +25,7 @@ on_map (Some words) P Q f h = f words h
 
 -- What is wanted.
 
-module _ (e : Errand) (w v : Walk) (l : IsLike w v) where
+module _ (e : CallContext) (w v : Workspace) (l : IsLike w v) where
   pub aimed_like : IsAimed e w → IsAimed e v
   aimed_like a = record { fit = a.fit; wanted = l.wanted ∙ a.wanted }
 
@@ -63,11 +63,11 @@ module _ (e : Errand) (w v : Walk) (l : IsLike w v) where
 
 -- What is wanted, of the struck cases.
 
--- the walk that wants this
-abbrev wanting : Walk → Want → Walk
+-- the workspace that wants this
+abbrev wanting : Workspace → Want → Workspace
 wanting w n = record w { want = n }
 
-module _ (e : Errand) (w : Walk) (n : Want) (asked : ℕ) where
+module _ (e : CallContext) (w : Workspace) (n : Want) (asked : ℕ) where
   alike : IsLike w (wanting w n)
   alike = record { wanted = refl; notes = refl; second = refl; wire = refl }
 

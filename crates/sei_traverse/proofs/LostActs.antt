@@ -19,9 +19,9 @@ use Rattle.sei_stmt.specs.Machine.{Outcome, After}
 use Rattle.sei_stmt.specs.Machine.Outcome.{Next, Halted, Bad}
 use Rattle.sei_stmt.specs.Statements.{step_tree}
 use Rattle.sei_traverse.specs.declared.turned.Want.TheVariants.{Nothing, Enter as WantEnter, Give as WantGive}
-use Rattle.sei_traverse.specs.declared.walk.Ending.{Ending}
-use Rattle.sei_traverse.specs.declared.walk.Ending.TheVariants.{Leads, Refuses, Aborts}
-use Rattle.sei_traverse.specs.declared.walk.Walk.{Walk}
+use Rattle.sei_traverse.specs.declared.workspace.Ending.{Ending}
+use Rattle.sei_traverse.specs.declared.workspace.Ending.TheVariants.{Leads, Refuses, Aborts}
+use Rattle.sei_traverse.specs.declared.workspace.Workspace.{Workspace}
 use Rattle.sei_traverse.specs.Acts.{Acted, acted, ends, at, closed_to, closing_then, closes}
 use Rattle.sei_traverse.specs.PassActs.{first_machine, second_machine, with_first, with_second, first_from, first_to, second_from, second_to}
 use Rattle.sei_traverse.specs.Phases.{guard_call, take_wanted, store_wanted, undone_as, undone_to, compared, entries_to, outputs_to, word_to, copy_bytes, wire_to, verify_copy, send_want, reply_of}
@@ -36,19 +36,19 @@ LostEnds phase Refuses = ⊥
 LostEnds phase (Aborts cause) = ⊤
 
 -- behind an act of a phase that it does not close, what is wanted, the gate and the sealed call are as before
-pub record StaysLost (phase : Phase) (w : Walk) (y : Acted) : Type 0 where
-  pub want : y.walk.want ≡ w.want
-  pub gate : y.walk.gate ≡ w.gate
-  pub sealed : y.walk.sealed ≡ w.sealed
+pub record StaysLost (phase : Phase) (w : Workspace) (y : Acted) : Type 0 where
+  pub want : y.workspace.want ≡ w.want
+  pub gate : y.workspace.gate ≡ w.gate
+  pub sealed : y.workspace.sealed ≡ w.sealed
   pub ends : LostEnds phase y.ending
 
--- a walk with the same parts
-record IsAlike (w v : Walk) : Type 0 where
+-- a workspace with the same parts
+record IsAlike (w v : Workspace) : Type 0 where
   want : v.want ≡ w.want
   gate : v.gate ≡ w.gate
   sealed : v.sealed ≡ w.sealed
 
-module _ (phase : Phase) (w v : Walk) (alike : IsAlike w v) (words : List ℕ) where
+module _ (phase : Phase) (w v : Workspace) (alike : IsAlike w v) (words : List ℕ) where
   lost_leads : (index : ℕ) → StaysLost phase w (acted v words (Leads (at phase index)))
   lost_leads index = record { want = alike.want; gate = alike.gate; sealed = alike.sealed; ends = refl }
 
@@ -56,16 +56,16 @@ module _ (phase : Phase) (w v : Walk) (alike : IsAlike w v) (words : List ℕ) w
   lost_aborts cause = record { want = alike.want; gate = alike.gate; sealed = alike.sealed; ends = tt }
 
   -- its closing test is answered no
-  lost_closing : (on : Walk → Tree Acted) → w.gate.done ≢ phase_number phase → StaysLost phase w (honest (closing_then phase v words on))
+  lost_closing : (on : Workspace → Tree Acted) → w.gate.done ≢ phase_number phase → StaysLost phase w (honest (closing_then phase v words on))
   lost_closing on lost =
       let no : (v.gate.done == phase_number phase) ≡ false = other v.gate.done (phase_number phase) (λ is. lost (sym (ap (λ g. g.done) alike.gate) ∙ is)) in
       subst (λ (b : Bool). StaysLost phase w (honest (closed_to v words on (b, if b then risen v.gate.done else v.gate.done)))) (sym no)
       (record { want = alike.want; gate = alike.gate; sealed = alike.sealed; ends = tt })
 
-itself : (w : Walk) → IsAlike w w
+itself : (w : Workspace) → IsAlike w w
 itself w = record { want = refl; gate = refl; sealed = refl }
 
-module _ (g : Given) (now : ℕ) (w : Walk) (words : List ℕ) where
+module _ (g : Given) (now : ℕ) (w : Workspace) (words : List ℕ) where
   lost_guard : w.gate.done ≢ 0 → (is_intact w.sealed g.input ≡ true) × (has_sealed_call g w.sealed ≡ true) → StaysLost Guard w (honest (act_in g now Guard w.place.index w words))
   lost_guard lost fit =
       subst (λ (b : Bool). StaysLost Guard w (honest (if b then guard_call g w words else ends w words Refuses))) (sym fit.0)
@@ -81,17 +81,17 @@ module _ (g : Given) (now : ℕ) (w : Walk) (words : List ℕ) where
 
 -- The passes: a statement leads on, aborts, or comes to a closing.
 
-first_ends : (w v : Walk) → IsAlike w v → (words : List ℕ) (o : Outcome) → w.gate.done ≢ 2 → StaysLost First w (honest (first_from v words o))
+first_ends : (w v : Workspace) → IsAlike w v → (words : List ℕ) (o : Outcome) → w.gate.done ≢ 2 → StaysLost First w (honest (first_from v words o))
 first_ends w v alike words (Next index) lost = lost_leads First w v alike words index
 first_ends w v alike words Halted lost = lost_closing First w v alike words (λ v. ends (record v { want = Nothing }) words (Leads (at Restore 0))) lost
 first_ends w v alike words (Bad cause) lost = lost_aborts First w v alike words cause
 
-second_ends : (w v : Walk) → IsAlike w v → (words : List ℕ) (o : Outcome) → w.gate.done ≢ 4 → StaysLost Second w (honest (second_from v words o))
+second_ends : (w v : Workspace) → IsAlike w v → (words : List ℕ) (o : Outcome) → w.gate.done ≢ 4 → StaysLost Second w (honest (second_from v words o))
 second_ends w v alike words (Next index) lost = lost_leads Second w v alike words index
 second_ends w v alike words Halted lost = lost_closing Second w v alike words (λ v. ends (record v { want = Nothing }) words (Leads (at Compare 0))) lost
 second_ends w v alike words (Bad cause) lost = lost_aborts Second w v alike words cause
 
-module _ (g : Given) (now : ℕ) (w : Walk) (words : List ℕ) where
+module _ (g : Given) (now : ℕ) (w : Workspace) (words : List ℕ) where
   lost_first : w.gate.done ≢ 2 → StaysLost First w (honest (act_in g now First w.place.index w words))
   lost_first lost =
       let t : Tree After = step_tree (setting_in g Making w.sealed now) w.place.index (first_machine w words) in
@@ -171,7 +171,7 @@ module _ (g : Given) (now : ℕ) (w : Walk) (words : List ℕ) where
   lost_verify lost = verify_by lost w.place.index (slice_get w.second_log.items w.place.index) (nat_lt w.place.index (length w.second_log.items))
 
 -- an honest act where another number of phases is closed than stand before its own
-pub lost_on : (g : Given) (now : ℕ) (phase : Phase) (w : Walk) (words : List ℕ) → w.gate.done ≢ phase_number phase →
+pub lost_on : (g : Given) (now : ℕ) (phase : Phase) (w : Workspace) (words : List ℕ) → w.gate.done ≢ phase_number phase →
     (phase ≡ Guard → (is_intact w.sealed g.input ≡ true) × (has_sealed_call g w.sealed ≡ true)) → StaysLost phase w (honest (act_in g now phase w.place.index w words))
 lost_on g now Guard w words lost fit = lost_guard g now w words lost (fit refl)
 lost_on g now Take w words lost fit = lost_take g now w words lost

@@ -28,28 +28,28 @@ use Rattle.sei_compare.specs.Comparing.{same_change, entry_tree, word_at, word_o
 use Rattle.sei_compare.proofs.Public.{same_change-same, word_at-honest, word_outcome-same, same_reply-same, is_message-same}
 use Rattle.sei_pass.specs.declared.given.Sealed.{Sealed}
 use Rattle.sei_traverse.specs.declared.turned.Want.TheVariants.{Nothing}
-use Rattle.sei_traverse.specs.declared.walk.Ending.TheVariants.{Leads}
-use Rattle.sei_traverse.specs.declared.walk.Walk.{Walk}
+use Rattle.sei_traverse.specs.declared.workspace.Ending.TheVariants.{Leads}
+use Rattle.sei_traverse.specs.declared.workspace.Workspace.{Workspace}
 use Rattle.sei_traverse.specs.Acts.{Acted, acted, at, closes}
 use Rattle.sei_traverse.specs.Comes.{at_time}
-use Rattle.sei_traverse.specs.Errand.{Errand, given_in, first_setting, first_start, Whole}
+use Rattle.sei_traverse.specs.CallContext.{CallContext, given_in, first_setting, first_start, Whole}
 use Rattle.sei_traverse.specs.PassActs.{pass_of}
 use Rattle.sei_traverse.specs.Phases.{undone_to, restore_tree, compared, entries_to, outputs_to, compare_tree, word_to, copy_bytes, wire_to, verify_copy, verify_tree}
 use Rattle.sei_traverse.specs.Step.{plain_below}
 use Rattle.sei_traverse.specs.Unstruck.{IsOf, before_restore, before_compare, before_verify, first_questions, InRestore, InBoth, InCompare, InVerify}
-use Rattle.sei_traverse.proofs.Closes.{closed, closes_in_turn}
+use Rattle.sei_traverse.proofs.Closes.{closed, closes_in_step}
 use Rattle.sei_traverse.proofs.Branches.{below, not_below, same, other}
 use Rattle.sei_traverse.proofs.GoesOn.{GoesOn}
 use Rattle.sei_traverse.proofs.LogLaws.{leads, undo_step, verify_word, FirstFits, first_fits}
 
 -- Parts of each act.
 
--- the walk with these passes, logs and notes
-abbrev parts : Walk → PassState → Kept Change → Notes → PassState → Kept Change → Walk
+-- the workspace with these passes, logs and notes
+abbrev parts : Workspace → PassState → Kept Change → Notes → PassState → Kept Change → Workspace
 parts w first first_log notes second second_log = record w { first = first; first_log = first_log; notes = notes; second = second; second_log = second_log }
 
--- a walk is known by its passes, logs and notes
-is_parts : (w : Walk) (first : PassState) (first_log : Kept Change) (notes : Notes) (second : PassState) (second_log : Kept Change) →
+-- a workspace is known by its passes, logs and notes
+is_parts : (w : Workspace) (first : PassState) (first_log : Kept Change) (notes : Notes) (second : PassState) (second_log : Kept Change) →
     w.first ≡ first → w.first_log ≡ first_log → w.notes ≡ notes → w.second ≡ second → w.second_log ≡ second_log → parts w first first_log notes second second_log ≡ w
 is_parts w first first_log notes second second_log a b c d f =
     sym (ap (λ (x : PassState). parts w x w.first_log w.notes w.second w.second_log) a
@@ -65,22 +65,22 @@ no_more : (n : ℕ) → 0 ≤ n
 no_more n = omega arith
 
 -- the log of the whole first pass leads from the words that were taken to those at its end
-whole_leads : (e : Errand) (time made : ℕ) (end : Machine) → Whole e time made end → LeadsTo e.taken end.log.items end.words
+whole_leads : (e : CallContext) (time made : ℕ) (end : Machine) → Whole e time made end → LeadsTo e.taken end.log.items end.words
 whole_leads e time made end whole =
     subst (λ (x : After). LeadsTo e.taken x.machine.log.items x.machine.words) whole.run.halts (leads (at_time (first_setting e) time) (first_start e) refl made)
 
 -- and its first byte is below 256
-whole_fits : (e : Errand) (time made : ℕ) (end : Machine) → Whole e time made end → FirstFits end.bytes.items
+whole_fits : (e : CallContext) (time made : ℕ) (end : Machine) → Whole e time made end → FirstFits end.bytes.items
 whole_fits e time made end whole =
     subst (λ (x : After). FirstFits x.machine.bytes.items) whole.run.halts (first_fits (at_time (first_setting e) time) (first_start e) refl made)
 
 -- Restore.
 
--- the walk behind a first pass that ended with this machine
-abbrev in_restore : Errand → Walk → Machine → Walk
+-- the workspace behind a first pass that ended with this machine
+abbrev in_restore : CallContext → Workspace → Machine → Workspace
 in_restore e w end = parts w (pass_of (new_pass e.space) end) end.log end.notes (new_pass e.space) (empty_kept Change e.space.log)
 
-module _ (w : Walk) (words : List ℕ) (index : ℕ) where
+module _ (w : Workspace) (words : List ℕ) (index : ℕ) where
   abbrev undoing : List Change → Bool → Tree Acted
   undoing log more =
       if more then bound (undo_at words (slice_get log (length log - 1 - index))) (undone_to w index) else closes Restore w words Nothing (at Second 0)
@@ -94,9 +94,9 @@ module _ (w : Walk) (words : List ℕ) (index : ℕ) where
 
   undo_closes : length w.first_log.items ≤ index → w.gate.done ≡ phase_number Restore → honest (restore_tree index w words) ≡ acted (closed w) words (Leads (at Second 0))
   undo_closes h e =
-      ap (λ (b : Bool). honest (undoing w.first_log.items b)) (not_below index (length w.first_log.items) h) ∙ closes_in_turn Restore w words (at Second 0) e
+      ap (λ (b : Bool). honest (undoing w.first_log.items b)) (not_below index (length w.first_log.items) h) ∙ closes_in_step Restore w words (at Second 0) e
 
-module _ (e : Errand) (now : ℕ) (w : Walk) (steps asked time made : ℕ) (end : Machine) (want : w.want ≡ Nothing) (whole : Whole e time made end) where
+module _ (e : CallContext) (now : ℕ) (w : Workspace) (steps asked time made : ℕ) (end : Machine) (want : w.want ≡ Nothing) (whole : Whole e time made end) where
   undoes_one : IsOf e w Restore → w.place.index < length end.log.items → steps ≤ before_restore made + w.place.index → first_questions e time made ≤ asked →
       GoesOn e (given_in e) now Restore (in_restore e w end) (restored end.log.items end.words w.place.index) Some steps asked
   undoes_one is h number questions =
@@ -104,7 +104,7 @@ module _ (e : Errand) (now : ℕ) (w : Walk) (steps asked time made : ℕ) (end 
       record {
         act = Plain;
         site = site_below (length end.log.items + 1) w.place.index (omega (arith, h));
-        walk = in_restore e w end;
+        workspace = in_restore e w end;
         left = restored end.log.items end.words (suc w.place.index);
         to = at Restore (w.place.index + 1);
         next = tt;
@@ -137,7 +137,7 @@ module _ (e : Errand) (now : ℕ) (w : Walk) (steps asked time made : ℕ) (end 
       record {
         act = Plain;
         site = site_below (length end.log.items + 1) w.place.index (omega (arith, h));
-        walk = closed (in_restore e w end);
+        workspace = closed (in_restore e w end);
         left = words;
         to = at Second 0;
         next = tt;
@@ -164,13 +164,13 @@ module _ (e : Errand) (now : ℕ) (w : Walk) (steps asked time made : ℕ) (end 
       }
 
 -- each change is undone, and behind the last one the words that were taken are back
-pub restore_on : (e : Errand) (now : ℕ) (w : Walk) (words : List ℕ) (steps asked : ℕ) → w.want ≡ Nothing → InRestore e w (Some words) steps asked →
+pub restore_on : (e : CallContext) (now : ℕ) (w : Workspace) (words : List ℕ) (steps asked : ℕ) → w.want ≡ Nothing → InRestore e w (Some words) steps asked →
     GoesOn e (given_in e) now Restore w words Some steps asked
 restore_on e now w words steps asked want i =
     let end : Machine = i.end in
     let are : words ≡ restored end.log.items end.words w.place.index = same_Some words _ i.words in
     let known : in_restore e w end ≡ w = is_parts w _ _ _ _ _ i.first.first i.first.first_log i.first.notes i.second.second i.second.second_log in
-    subst (λ (v : Walk). GoesOn e (given_in e) now Restore v words Some steps asked) known
+    subst (λ (v : Workspace). GoesOn e (given_in e) now Restore v words Some steps asked) known
     (subst (λ (l : List ℕ). GoesOn e (given_in e) now Restore (in_restore e w end) l Some steps asked) (sym are) (by_order (cases_lt w.place.index (length end.log.items))))
   where
     by_order : (w.place.index < length i.end.log.items) ⊎ (length i.end.log.items ≤ w.place.index) →
@@ -180,22 +180,22 @@ restore_on e now w words steps asked want i =
 
 -- Compare.
 
--- the walk behind both passes, which ended with this machine
-abbrev in_both : Errand → Walk → Machine → Walk
+-- the workspace behind both passes, which ended with this machine
+abbrev in_both : CallContext → Workspace → Machine → Workspace
 in_both e w end = parts w (pass_of (new_pass e.space) end) end.log end.notes (pass_of (new_pass e.space) end) end.log
 
-is_both : (e : Errand) (w : Walk) (lent : Option (List ℕ)) (time made : ℕ) (end : Machine) (asked : ℕ) → InBoth e w lent time made end asked → in_both e w end ≡ w
+is_both : (e : CallContext) (w : Workspace) (lent : Option (List ℕ)) (time made : ℕ) (end : Machine) (asked : ℕ) → InBoth e w lent time made end asked → in_both e w end ≡ w
 is_both e w lent time made end asked b = is_parts w _ _ _ _ _ b.first.first b.first.first_log b.first.notes b.second.second b.second.second_log
 
--- what is shown of that walk with the words at the end is shown of a walk that stands there
-from_both : (e : Errand) (w : Walk) (words : List ℕ) (time made : ℕ) (end : Machine) (asked : ℕ) (P : Walk → List ℕ → Type 0) → InBoth e w (Some words) time made end asked →
+-- what is shown of that workspace with the words at the end is shown of a workspace that stands there
+from_both : (e : CallContext) (w : Workspace) (words : List ℕ) (time made : ℕ) (end : Machine) (asked : ℕ) (P : Workspace → List ℕ → Type 0) → InBoth e w (Some words) time made end asked →
     P (in_both e w end) end.words → P w words
 from_both e w words time made end asked P b p =
-    subst (λ (v : Walk). P v words) (is_both e w (Some words) time made end asked b)
+    subst (λ (v : Workspace). P v words) (is_both e w (Some words) time made end asked b)
     (subst (λ (l : List ℕ). P (in_both e w end) l) (sym (same_Some words end.words b.words)) p)
 
 -- both passes stand as they did behind an act that keeps them and the words
-still_both : (e : Errand) (w : Walk) (time made : ℕ) (end : Machine) (asked : ℕ) → Whole e time made end → 2 * first_questions e time made ≤ asked →
+still_both : (e : CallContext) (w : Workspace) (time made : ℕ) (end : Machine) (asked : ℕ) → Whole e time made end → 2 * first_questions e time made ≤ asked →
     InBoth e (in_both e w end) (Some end.words) time made end (asked + 0)
 still_both e w time made end asked whole questions = record {
   whole = whole;
@@ -205,7 +205,7 @@ still_both e w time made end asked whole questions = record {
   questions = omega (arith, questions);
 }
 
-module _ (w : Walk) (words : List ℕ) (index : ℕ) where
+module _ (w : Workspace) (words : List ℕ) (index : ℕ) where
   abbrev comparing : Bool → Tree Acted
   comparing more =
       if more
@@ -221,7 +221,7 @@ module _ (w : Walk) (words : List ℕ) (index : ℕ) where
   outputs_close h e gate =
       ap (λ (b : Bool). honest (comparing b)) (not_below index (compared w) h)
       ∙ ap (λ (b : Bool). honest (outputs_to w words b)) e
-      ∙ closes_in_turn Compare w words (at Verify 0) gate
+      ∙ closes_in_step Compare w words (at Verify 0) gate
 
 no_change : Change
 no_change = change_of 0 0 0
@@ -237,7 +237,7 @@ reply_same code n bytes e = ap (λ (o : Option ℕ). same_reply o bytes o bytes)
 max_same : (n : ℕ) → max n n ≡ n
 max_same n = omega arith
 
-module _ (e : Errand) (now : ℕ) (w : Walk) (steps asked time made : ℕ) (end : Machine) (want : w.want ≡ Nothing) (whole : Whole e time made end) (questions : 2 * first_questions e time made ≤ asked) where
+module _ (e : CallContext) (now : ℕ) (w : Workspace) (steps asked time made : ℕ) (end : Machine) (want : w.want ≡ Nothing) (whole : Whole e time made end) (questions : 2 * first_questions e time made ≤ asked) where
   compares_one : IsOf e w Compare → w.place.index < length end.log.items → steps ≤ before_compare made (length end.log.items) + w.place.index →
       GoesOn e (given_in e) now Compare (in_both e w end) end.words Some steps asked
   compares_one is h number =
@@ -245,7 +245,7 @@ module _ (e : Errand) (now : ℕ) (w : Walk) (steps asked time made : ℕ) (end 
       record {
         act = Plain;
         site = site_below (compared (in_both e w end) + 1) w.place.index (omega (arith, h, longer));
-        walk = in_both e w end;
+        workspace = in_both e w end;
         left = end.words;
         to = at Compare (w.place.index + 1);
         next = tt;
@@ -271,7 +271,7 @@ module _ (e : Errand) (now : ℕ) (w : Walk) (steps asked time made : ℕ) (end 
       record {
         act = Plain;
         site = site_below (compared (in_both e w end) + 1) w.place.index (omega (arith, h, longer));
-        walk = closed (in_both e w end);
+        workspace = closed (in_both e w end);
         left = end.words;
         to = at Verify 0;
         next = tt;
@@ -292,10 +292,10 @@ module _ (e : Errand) (now : ℕ) (w : Walk) (steps asked time made : ℕ) (end 
       }
 
 -- each entry is compared, and then the outputs are
-pub compare_on : (e : Errand) (now : ℕ) (w : Walk) (words : List ℕ) (steps asked : ℕ) → w.want ≡ Nothing → InCompare e w (Some words) steps asked →
+pub compare_on : (e : CallContext) (now : ℕ) (w : Workspace) (words : List ℕ) (steps asked : ℕ) → w.want ≡ Nothing → InCompare e w (Some words) steps asked →
     GoesOn e (given_in e) now Compare w words Some steps asked
 compare_on e now w words steps asked want i =
-    from_both e w words i.time i.made i.end asked (λ (v : Walk) (l : List ℕ). GoesOn e (given_in e) now Compare v l Some steps asked) i.both
+    from_both e w words i.time i.made i.end asked (λ (v : Workspace) (l : List ℕ). GoesOn e (given_in e) now Compare v l Some steps asked) i.both
     (by_order (cases_lt w.place.index (length i.end.log.items)))
   where
     by_order : (w.place.index < length i.end.log.items) ⊎ (length i.end.log.items ≤ w.place.index) →
@@ -305,18 +305,18 @@ compare_on e now w words steps asked want i =
 
 -- Verify.
 
--- the walk with these bytes as the copy for the wire
-abbrev copied : Walk → List ℕ → Walk
+-- the workspace with these bytes as the copy for the wire
+abbrev copied : Workspace → List ℕ → Workspace
 copied w bytes = record w { wire = refilled w.wire bytes }
 
 -- bytes whose first one is below 256 are copied as they are
-copies : (w : Walk) (words : List ℕ) (index : ℕ) (bytes : List ℕ) → FirstFits bytes → honest (copy_bytes w words index bytes) ≡ acted (copied w bytes) words (Leads (at Verify (index + 1)))
+copies : (w : Workspace) (words : List ℕ) (index : ℕ) (bytes : List ℕ) → FirstFits bytes → honest (copy_bytes w words index bytes) ≡ acted (copied w bytes) words (Leads (at Verify (index + 1)))
 copies w words index [] fits = refl
 copies w words index (byte ∷ bytes) fits =
     let small : byte % 2 ^ 8 ≡ byte = omega (arith, fits) in
     ap (λ (b : ℕ). acted (copied w (b ∷ bytes)) words (Leads (at Verify (index + 1)))) small
 
-module _ (w : Walk) (words : List ℕ) (index : ℕ) where
+module _ (w : Workspace) (words : List ℕ) (index : ℕ) where
   abbrev verifying : Bool → Tree Acted
   verifying more =
       if more then bound (word_at words (slice_get w.second_log.items index)) (word_to w words index) else verify_copy index w words
@@ -348,7 +348,7 @@ module _ (w : Walk) (words : List ℕ) (index : ℕ) where
       verify_past (omega (arith, h))
       ∙ ap (λ (b : Bool). honest (behind b)) (other index (length w.second_log.items) (λ is. omega (arith, h, is)))
       ∙ ap (λ (b : Bool). honest (wire_to w words b)) e
-      ∙ closes_in_turn Verify w words (at Enter 0) gate
+      ∙ closes_in_step Verify w words (at Enter 0) gate
 
 -- where the addresses of a log rise, the word that an entry made stands there
 word_same : (before : List ℕ) (log : List Change) (words : List ℕ) (i : ℕ) → LeadsTo before log words → RisesFrom 0 log → i < length log → word_outcome words (slice_get log i) ≡ Ok true
@@ -366,13 +366,13 @@ message_same n m code bytes wire number coded copy =
     ∙ ap (λ (l : List ℕ). is_message m (Some (message_code m bytes)) bytes l) copy
     ∙ is_message-same m bytes
 
-module _ (e : Errand) (now : ℕ) (w : Walk) (steps asked time made : ℕ) (end : Machine) (want : w.want ≡ Nothing) (whole : Whole e time made end) (questions : 2 * first_questions e time made ≤ asked) where
+module _ (e : CallContext) (now : ℕ) (w : Workspace) (steps asked time made : ℕ) (end : Machine) (want : w.want ≡ Nothing) (whole : Whole e time made end) (questions : 2 * first_questions e time made ≤ asked) where
   verifies_one : IsOf e w Verify → w.place.index < length end.log.items → steps ≤ before_verify made (length end.log.items) + w.place.index →
       GoesOn e (given_in e) now Verify (in_both e w end) end.words Some steps asked
   verifies_one is h number = record {
     act = Plain;
     site = site_below (length end.log.items + 2) w.place.index (omega (arith, h));
-    walk = in_both e w end;
+    workspace = in_both e w end;
     left = end.words;
     to = at Verify (w.place.index + 1);
     next = tt;
@@ -397,7 +397,7 @@ module _ (e : Errand) (now : ℕ) (w : Walk) (steps asked time made : ℕ) (end 
   makes_copy is h number = record {
     act = Plain;
     site = site_below (length end.log.items + 2) w.place.index (omega (arith, h));
-    walk = copied (in_both e w end) end.bytes.items;
+    workspace = copied (in_both e w end) end.bytes.items;
     left = end.words;
     to = at Verify (w.place.index + 1);
     next = tt;
@@ -422,7 +422,7 @@ module _ (e : Errand) (now : ℕ) (w : Walk) (steps asked time made : ℕ) (end 
   verifies_last is h copy number = record {
     act = Plain;
     site = site_below (length end.log.items + 2) w.place.index (omega (arith, h));
-    walk = closed (in_both e w end);
+    workspace = closed (in_both e w end);
     left = end.words;
     to = at Enter 0;
     next = tt;
@@ -444,10 +444,10 @@ module _ (e : Errand) (now : ℕ) (w : Walk) (steps asked time made : ℕ) (end 
   }
 
 -- each changed word is read back, then the copy for the wire is made, and it is tested last
-pub verify_on : (e : Errand) (now : ℕ) (w : Walk) (words : List ℕ) (steps asked : ℕ) → w.want ≡ Nothing → InVerify e w (Some words) steps asked →
+pub verify_on : (e : CallContext) (now : ℕ) (w : Workspace) (words : List ℕ) (steps asked : ℕ) → w.want ≡ Nothing → InVerify e w (Some words) steps asked →
     GoesOn e (given_in e) now Verify w words Some steps asked
 verify_on e now w words steps asked want i =
-    from_both e w words i.time i.made i.end asked (λ (v : Walk) (l : List ℕ). GoesOn e (given_in e) now Verify v l Some steps asked) i.both
+    from_both e w words i.time i.made i.end asked (λ (v : Workspace) (l : List ℕ). GoesOn e (given_in e) now Verify v l Some steps asked) i.both
     (by_order (cases_lt w.place.index (length i.end.log.items)))
   where
     behind_words : length i.end.log.items ≤ w.place.index → (w.place.index < length i.end.log.items + 1) ⊎ (length i.end.log.items + 1 ≤ w.place.index) →

@@ -24,7 +24,7 @@ use Rattle.sei_stmt.proofs.PublicStatementEnds.{IsNow, now_or_not, statement_kee
 use Rattle.sei_stmt.proofs.PublicStatementRuns.{looks, Repeats, plain_repeats, store_repeats, by_statements}
 use Rattle.sei_stmt.proofs.PublicStatementRuns.Looks.{Stores, Times, Slots, Neither}
 use Rattle.sei_traverse.specs.Comes.{again, renoted, renoted_end}
-use Rattle.sei_traverse.specs.Errand.{no_notes}
+use Rattle.sei_traverse.specs.CallContext.{no_notes}
 
 -- one statement in both passes
 

@@ -29,16 +29,16 @@ use Rattle.sei_compare.specs.Comparing.{entry_tree, codes_tree, word_at, wire_tr
 use Rattle.sei_traverse.specs.declared.turned.State.{State}
 use Rattle.sei_traverse.specs.declared.turned.Want.{Want}
 use Rattle.sei_traverse.specs.declared.turned.Want.TheVariants.{Nothing, Take as WantTake, Enter as WantEnter, Give as WantGive}
-use Rattle.sei_traverse.specs.declared.walk.Ending.{Ending}
-use Rattle.sei_traverse.specs.declared.walk.Ending.TheVariants.{Leads, Refuses, Aborts}
-use Rattle.sei_traverse.specs.declared.walk.Walk.{Walk}
+use Rattle.sei_traverse.specs.declared.workspace.Ending.{Ending}
+use Rattle.sei_traverse.specs.declared.workspace.Ending.TheVariants.{Leads, Refuses, Aborts}
+use Rattle.sei_traverse.specs.declared.workspace.Workspace.{Workspace}
 use Rattle.sei_traverse.specs.Acts.{Acted, ends, at, closed_to, closing_then, closes}
 use Rattle.sei_traverse.specs.Noting.{NotesTime}
 use Rattle.sei_traverse.specs.Noting.NotesTime.{Same, Noted}
 use Rattle.sei_traverse.specs.PassActs.{first_machine, second_machine, with_first, with_second, first_from, first_to, first_tree, second_from, second_to, second_tree}
 use Rattle.sei_traverse.specs.Phases.{guard_call, store_wanted, take_wanted, undone_as, undone_to, compared, entries_to, outputs_to, word_to, reply_of, copy_bytes, wire_to, verify_copy, send_want}
 use Rattle.sei_traverse.specs.Given.{Given, setting_in}
-use Rattle.sei_traverse.specs.Step.{Turn, turn, act_in, act_tree, site_of, goes, goes_on, once, unless_ended, twice, turn_as, turn_at, turn_tree, TimedTwice}
+use Rattle.sei_traverse.specs.Step.{StepResult, step_result, act_in, act_tree, site_of, goes, goes_on, once, unless_ended, twice, step_as, step_at, traversal_step, TimedTwice}
 use Rattle.sei_traverse.proofs.StepsBound.{always_bound, always_any}
 use Rattle.sei_traverse.proofs.NoteLaws.{Leaves, leaves}
 
@@ -75,13 +75,13 @@ module _ (told : Option ℕ) where
 
   -- acts
 
-  module _ (w : Walk) where
-    -- an act that ends with such a walk
+  module _ (w : Workspace) where
+    -- an act that ends with such a workspace
     abbrev Notes : Acted → Type 0
-    Notes y = NotesTime told w.notes.now y.walk.notes.now
+    Notes y = NotesTime told w.notes.now y.workspace.notes.now
 
     -- one that closes a phase leaves the notes
-    notes_closes : (p : Phase) (v : Walk) (words : List ℕ) (want : Want) (to : Place) → NotesTime told w.notes.now v.notes.now → Always Notes (closes p v words want to)
+    notes_closes : (p : Phase) (v : Workspace) (words : List ℕ) (want : Want) (to : Place) → NotesTime told w.notes.now v.notes.now → Always Notes (closes p v words want to)
     notes_closes p v words want to h = λ yes. by_answer yes
       where
         by_answer : (yes : Bool) → Always Notes (closed_to v words (λ u. ends (record u { want = want }) words (Leads to)) (yes, if yes then risen v.gate.done else v.gate.done))
@@ -96,7 +96,7 @@ module _ (told : Option ℕ) where
     notes_guard g words true = λ yes. guard_asked words yes
     notes_guard g words false = Same refl
 
-    take_room : (v : Walk) (words : List ℕ) (there : Bool) → v.notes ≡ w.notes →
+    take_room : (v : Workspace) (words : List ℕ) (there : Bool) → v.notes ≡ w.notes →
         Always Notes (if there then ends (record v { want = WantTake v.wanted }) words (Leads (at First 0)) else ends v words (Aborts (OutOfRange v.wanted)))
     take_room v words true e = Same (ap (λ n. n.now) e)
     take_room v words false e = Same (ap (λ n. n.now) e)
@@ -109,7 +109,7 @@ module _ (told : Option ℕ) where
     notes_take g words true = λ b wanted. Same refl
     notes_take g words false = λ yes. take_closed g words yes
 
-    first_onward : (v : Walk) (words : List ℕ) (o : Outcome) → NotesTime told w.notes.now v.notes.now → Always Notes (first_from v words o)
+    first_onward : (v : Workspace) (words : List ℕ) (o : Outcome) → NotesTime told w.notes.now v.notes.now → Always Notes (first_from v words o)
     first_onward v words (Next i) h = h
     first_onward v words Halted h = notes_closes First v words Nothing (at Restore 0) h
     first_onward v words (Bad cause) h = h
@@ -121,7 +121,7 @@ module _ (told : Option ℕ) where
         (λ x h. first_onward (with_first w x.machine) x.machine.words x.outcome h)
         (notes_step s index (first_machine w words) answer)
 
-    second_onward : (v : Walk) (words : List ℕ) (o : Outcome) → NotesTime told w.notes.now v.notes.now → Always Notes (second_from v words o)
+    second_onward : (v : Workspace) (words : List ℕ) (o : Outcome) → NotesTime told w.notes.now v.notes.now → Always Notes (second_from v words o)
     second_onward v words (Next i) h = h
     second_onward v words Halted h = notes_closes Second v words Nothing (at Compare 0) h
     second_onward v words (Bad cause) h = h
@@ -199,41 +199,41 @@ module _ (told : Option ℕ) where
 
   -- a whole step
 
-  -- the walk behind a step notes as that before it
-  abbrev NotesOn : Walk → Turn → Type 0
-  NotesOn w x = NotesTime told w.notes.now x.walk.notes.now
+  -- the workspace behind a step notes as that before it
+  abbrev NotesOn : Workspace → StepResult → Type 0
+  NotesOn w x = NotesTime told w.notes.now x.workspace.notes.now
 
-  ended_notes : (w v : Walk) (words : List ℕ) (on : Place → Tree Turn) (e : Ending) → NotesTime told w.notes.now v.notes.now → ((to : Place) → Always (NotesOn w) (on to)) → Always (NotesOn w) (unless_ended on v words e)
+  ended_notes : (w v : Workspace) (words : List ℕ) (on : Place → Tree StepResult) (e : Ending) → NotesTime told w.notes.now v.notes.now → ((to : Place) → Always (NotesOn w) (on to)) → Always (NotesOn w) (unless_ended on v words e)
   ended_notes w v words on (Leads to) h on_to = on_to to
   ended_notes w v words on Refuses h on_to = h
   ended_notes w v words on (Aborts cause) h on_to = h
 
   -- an act that is made once, behind what was noted before
-  once_notes : (g : Given) (now : ℕ) (w v : Walk) (words : List ℕ) → IsAnswer told now → NotesTime told w.notes.now v.notes.now → Always (NotesOn w) (once g now v words)
+  once_notes : (g : Given) (now : ℕ) (w v : Workspace) (words : List ℕ) → IsAnswer told now → NotesTime told w.notes.now v.notes.now → Always (NotesOn w) (once g now v words)
   once_notes g now w v words answer before =
       always_bound (Notes v) (NotesOn w) (act_tree g now v words) goes_on
-      (λ y h. let more : NotesTime told w.notes.now y.walk.notes.now = behind w.notes.now v.notes.now y.walk.notes.now before h in ended_notes w y.walk y.words (goes y.walk y.words) y.ending more (λ to p. more))
+      (λ y h. let more : NotesTime told w.notes.now y.workspace.notes.now = behind w.notes.now v.notes.now y.workspace.notes.now before h in ended_notes w y.workspace y.words (goes y.workspace y.words) y.ending more (λ to p. more))
       (notes_act v g now v.place.phase v.place.index words answer)
 
-  twice_notes : (g : Given) (now later : ℕ) (w : Walk) (words : List ℕ) → IsAnswer told now → IsAnswer told later → Always (NotesOn w) (bound (act_tree g now w words) (twice g later))
+  twice_notes : (g : Given) (now later : ℕ) (w : Workspace) (words : List ℕ) → IsAnswer told now → IsAnswer told later → Always (NotesOn w) (bound (act_tree g now w words) (twice g later))
   twice_notes g now later w words answer again =
       always_bound (Notes w) (NotesOn w) (act_tree g now w words) (twice g later)
-      (λ y h. ended_notes w y.walk y.words (λ to. once g later y.walk y.words) y.ending h (λ to. once_notes g later w y.walk y.words again h))
+      (λ y h. ended_notes w y.workspace y.words (λ to. once g later y.workspace y.words) y.ending h (λ to. once_notes g later w y.workspace y.words again h))
       (notes_act w g now w.place.phase w.place.index words answer)
 
-  times_notes : (g : Given) (now later : ℕ) (w : Walk) (words : List ℕ) (act : Act) (times : Times) → IsAnswer told now → IsAnswer told later → Always (NotesOn w) (turn_as g now later w words act times)
+  times_notes : (g : Given) (now later : ℕ) (w : Workspace) (words : List ℕ) (act : Act) (times : Times) → IsAnswer told now → IsAnswer told later → Always (NotesOn w) (step_as g now later w words act times)
   times_notes g now later w words act Once answer again = once_notes g now w w words answer (Same refl)
   times_notes g now later w words act Skip answer again = λ p. Same refl
   times_notes g now later w words act Twice answer again = twice_notes g now later w words answer again
 
-  turn_notes : (g : Given) (now later : ℕ) (w : Walk) (words : List ℕ) (o : Option Act) → IsAnswer told now → IsAnswer told later → Always (NotesOn w) (turn_at g now later w words o)
-  turn_notes g now later w words None answer again = Same refl
-  turn_notes g now later w words (Some act) answer again = λ times. times_notes g now later w words act times answer again
+  step_notes : (g : Given) (now later : ℕ) (w : Workspace) (words : List ℕ) (o : Option Act) → IsAnswer told now → IsAnswer told later → Always (NotesOn w) (step_at g now later w words o)
+  step_notes g now later w words None answer again = Same refl
+  step_notes g now later w words (Some act) answer again = λ times. times_notes g now later w words act times answer again
 
   -- whatever is answered, a step notes no other time than the clock's
-  pub notes_time : {S : Type 0} (gives : S → (q : Question) → Answer q → S → Type 0) (g : Given) (w v : Walk) (words left : List ℕ) (state : State) (s t : S) →
-      TimedTwice gives told (λ now later. turn_tree g now later w words) s t (turn v left state) → NotesTime told w.notes.now v.notes.now
+  pub notes_time : {S : Type 0} (gives : S → (q : Question) → Answer q → S → Type 0) (g : Given) (w v : Workspace) (words left : List ℕ) (state : State) (s t : S) →
+      TimedTwice gives told (λ now later. traversal_step g now later w words) s t (step_result v left state) → NotesTime told w.notes.now v.notes.now
   notes_time gives g w v words left state s t turned =
-      let from : Walk = record w { want = Nothing } in
-      always gives (NotesOn w) (turn_tree g turned.now turned.later w words) s t (turn v left state)
-      (turn_notes g turned.now turned.later from words (site_of g.behavior from) turned.answer turned.answer_later) turned.runs
+      let from : Workspace = record w { want = Nothing } in
+      always gives (NotesOn w) (traversal_step g turned.now turned.later w words) s t (step_result v left state)
+      (step_notes g turned.now turned.later from words (site_of g.behavior from) turned.answer turned.answer_later) turned.runs

@@ -13,7 +13,7 @@ use Rattle.sei_stmt.specs.Statements.{step_tree}
 use Rattle.sei_pass.specs.declared.given.Which.TheVariants.{Making, Reading}
 use Rattle.sei_pass.specs.State.{PassState}
 use Rattle.sei_pass.specs.Steps.{machine_of, Stepped}
-use Rattle.sei_traverse.specs.declared.walk.Walk.{Walk}
+use Rattle.sei_traverse.specs.declared.workspace.Workspace.{Workspace}
 use Rattle.sei_traverse.specs.Acts.{Acted}
 use Rattle.sei_traverse.specs.PassActs.{pass_of, first_machine, second_machine, first_from, first_to, second_from, second_to, first_tree, second_tree}
 use Rattle.sei_traverse.specs.Given.{Given, setting_in}
@@ -23,7 +23,7 @@ use Rattle.sei_traverse.specs.Step.{Timed}
 pub pass_again : (p q : PassState) (words : List ℕ) (log : Kept Change) (notes : Notes) → q.space ≡ p.space → pass_of p (machine_of q words log notes) ≡ q
 pass_again p q words log notes e = ap (λ (g : PassSpace). let r : PassState = record q { space = g } in r) (sym e)
 
-module _ {S : Type 0} (gives : S → (q : Question) → Answer q → S → Type 0) (counts : S → Counts) (told : Option ℕ) (g : Given) (w : Walk) (words left : List ℕ)
+module _ {S : Type 0} (gives : S → (q : Question) → Answer q → S → Type 0) (counts : S → Counts) (told : Option ℕ) (g : Given) (w : Workspace) (words left : List ℕ)
     (q : PassState) (log : Kept Change) (notes : Notes) (o : Outcome) (s t u : S) (x : Acted) where
   pub first_runs : q.space ≡ w.first.space →
       Stepped gives counts told (setting_in g Making w.sealed) w.place.index (first_machine w words) (machine_of q left log notes) o s t →

@@ -25,15 +25,15 @@ use Rattle.sei_pass.specs.declared.given.Sealed.{Sealed}
 use Rattle.sei_pass.specs.declared.given.Which.TheVariants.{Making, Reading}
 use Rattle.sei_pass.specs.State.{PassState, new_pass}
 use Rattle.sei_traverse.specs.declared.turned.Want.TheVariants.{Nothing}
-use Rattle.sei_traverse.specs.declared.walk.Walk.{Walk}
+use Rattle.sei_traverse.specs.declared.workspace.Workspace.{Workspace}
 use Rattle.sei_traverse.specs.Acts.{at}
 use Rattle.sei_traverse.specs.Comes.{at_time, again, renoted, renoted_end, Agrees, Comes}
-use Rattle.sei_traverse.specs.Errand.{Errand, Follows, given_in, first_setting, first_start, IsErrand, Whole}
+use Rattle.sei_traverse.specs.CallContext.{CallContext, Follows, given_in, first_setting, first_start, IsCallContext, Whole}
 use Rattle.sei_traverse.specs.PassActs.{asked_behind, pass_of, first_machine, second_machine, with_first, with_second, first_from, first_to, second_from, second_to}
 use Rattle.sei_traverse.specs.Given.{setting_in}
 use Rattle.sei_traverse.specs.Step.{act_in, site_in}
 use Rattle.sei_traverse.specs.Unstruck.{IsOf, SecondIsNew, FirstRuns, InFirst, InRestore, InSecond, InBoth, InCompare}
-use Rattle.sei_traverse.proofs.Closes.{closed, closes_in_turn, first_behind, second_behind}
+use Rattle.sei_traverse.proofs.Closes.{closed, closes_in_step, first_behind, second_behind}
 use Rattle.sei_traverse.proofs.GoesOn.{GoesOn}
 use Rattle.sei_traverse.proofs.NoteLaws.{repeats, repeats_asked}
 use Rattle.sei_traverse.proofs.TimeLaws.{timeless_again, after_again, weighed_after_again, within_clock, agrees_on, comes_on, goes_on, Stands, ends_so}
@@ -79,7 +79,7 @@ followed : (clock : Option ℕ) (g : Setting) (start : Machine) (n q : ℕ) (x :
 followed None g start n q x time now h k c f = record { comes = c; told = search }
 followed (Some t) g start n q x time now h k c f = record { comes = record { time = now; agrees = f (h ∙ sym k); run = c.run; asked = c.asked }; told = k }
 
-module _ (e : Errand) (now : ℕ) (w : Walk) (words : List ℕ) where
+module _ (e : CallContext) (now : ℕ) (w : Workspace) (words : List ℕ) where
   -- the step of the first pass
   abbrev first_step : Tree After
   first_step = step_tree (at_time (first_setting e) now) w.place.index (first_machine w words)
@@ -104,26 +104,26 @@ module _ (e : Errand) (now : ℕ) (w : Walk) (words : List ℕ) where
   first_asks_closing : w.sealed ≡ e.sealed → first_end.outcome ≡ Halted → weighed first_step + 1 ≤ weighed (act_in (given_in e) now First w.place.index w words)
   first_asks_closing is halts = let one : asked_behind first_end.outcome ≡ 1 = ap asked_behind halts in omega (arith, first_asks is, one)
 
-  module _ (errand : IsErrand e) (small : now < 2 ^ 64) (told : Follows e.clock now) (nothing : w.want ≡ Nothing) (steps asked : ℕ) (is : IsOf e w First) (second : SecondIsNew e w) (runs : FirstRuns e w words steps asked) where
+  module _ (call_context : IsCallContext e) (small : now < 2 ^ 64) (told : Follows e.clock now) (nothing : w.want ≡ Nothing) (steps asked : ℕ) (is : IsOf e w First) (second : SecondIsNew e w) (runs : FirstRuns e w words steps asked) where
     first_followed : Followed e.clock (first_setting e) (first_start e) (suc runs.made) (asked + weighed first_step) first_end
     first_followed =
         followed e.clock (first_setting e) (first_start e) (suc runs.made) (asked + weighed first_step) first_end runs.comes.time now runs.told told
-        (comes_on (first_setting e) (first_start e) refl refl errand.ends runs.made w.place.index asked now (first_machine w words) runs.comes small)
+        (comes_on (first_setting e) (first_start e) refl refl call_context.ends runs.made w.place.index asked now (first_machine w words) runs.comes small)
         (λ same. agrees_on (first_setting e) refl now w.place.index (first_machine w words) small (subst (λ t. Agrees w.notes.now t) same runs.comes.agrees))
 
     abbrev first_comes : Comes (first_setting e) (first_start e) (suc runs.made) first_end (asked + weighed first_step)
     first_comes = first_followed.comes
 
     first_stands : Stands (first_setting e) (first_start e) (suc runs.made) first_comes.time first_end
-    first_stands = ends_so (first_setting e) (first_start e) errand.ends (suc runs.made) (asked + weighed first_step) first_end first_comes
+    first_stands = ends_so (first_setting e) (first_start e) call_context.ends (suc runs.made) (asked + weighed first_step) first_end first_comes
 
     -- where it halts, it was within its budget
     first_within : suc runs.made < (first_setting e).budget
     first_within =
         let t : ℕ = runs.comes.time in
         let lt : t < 2 ^ 64 = within_clock w.notes.now t runs.comes.agrees in
-        let before = goes_on (first_setting e) (first_start e) refl refl errand.ends runs.made w.place.index t (first_machine w words) lt (runs.comes.run t runs.comes.agrees) in
-        let budget = (errand.ends t lt).within in
+        let before = goes_on (first_setting e) (first_start e) refl refl call_context.ends runs.made w.place.index t (first_machine w words) lt (runs.comes.run t runs.comes.agrees) in
+        let budget = (call_context.ends t lt).within in
         omega (arith, before, budget)
 
     first_site : (act : Act) × (site_in e.behavior w First w.place.index ≡ Some act)
@@ -148,7 +148,7 @@ module _ (e : Errand) (now : ℕ) (w : Walk) (words : List ℕ) where
     first_goes index next = record {
       act = first_site.0;
       site = first_site.1;
-      walk = with_first w first_end.machine;
+      workspace = with_first w first_end.machine;
       left = first_end.machine.words;
       to = at First index;
       next = tt;
@@ -191,14 +191,14 @@ module _ (e : Errand) (now : ℕ) (w : Walk) (words : List ℕ) where
     first_halts halts = record {
       act = first_site.0;
       site = first_site.1;
-      walk = closed (with_first w first_end.machine);
+      workspace = closed (with_first w first_end.machine);
       left = first_end.machine.words;
       to = at Restore 0;
       next = tt;
       acts =
           first_acts is.sealed
           ∙ ap (λ (o : Outcome). honest (first_from (with_first w first_end.machine) first_end.machine.words o)) halts
-          ∙ closes_in_turn First (with_first w first_end.machine) first_end.machine.words (at Restore 0) is.gate;
+          ∙ closes_in_step First (with_first w first_end.machine) first_end.machine.words (at Restore 0) is.gate;
       want = refl;
       more = weighed first_step + 1;
       asks = first_asks_closing is.sealed halts;
@@ -211,10 +211,10 @@ module _ (e : Errand) (now : ℕ) (w : Walk) (words : List ℕ) where
     first_ends (Aborting cause bad) = absurd (first_stands.never_bad cause bad)
 
 -- a statement of the first pass leads to the next one, or to the start of Restore
-pub first_on : (e : Errand) (now : ℕ) (w : Walk) (words : List ℕ) (steps asked : ℕ) → IsErrand e → now < 2 ^ 64 → Follows e.clock now → w.want ≡ Nothing →
+pub first_on : (e : CallContext) (now : ℕ) (w : Workspace) (words : List ℕ) (steps asked : ℕ) → IsCallContext e → now < 2 ^ 64 → Follows e.clock now → w.want ≡ Nothing →
     InFirst e w (Some words) steps asked → GoesOn e (given_in e) now First w words Some steps asked
-first_on e now w words steps asked errand small told nothing h =
-    first_ends e now w words errand small told nothing steps asked h.is h.second h.at (ends_in (first_end e now w words).outcome)
+first_on e now w words steps asked call_context small told nothing h =
+    first_ends e now w words call_context small told nothing steps asked h.is h.second h.at (ends_in (first_end e now w words).outcome)
 
 -- The second pass.
 
@@ -236,7 +236,7 @@ outcome_at : (x : After) (o : Outcome) → x.outcome ≡ o → x ≡ record { ma
 outcome_at x o e = ap (λ (o : Outcome). let y : After = record { machine = x.machine; outcome = o } in y) e
 
 -- a second pass that has come here, by the notes of a whole first one
-module _ (e : Errand) (w : Walk) (words : List ℕ) (steps asked : ℕ) (h : InSecond e w (Some words) steps asked) where
+module _ (e : CallContext) (w : Workspace) (words : List ℕ) (steps asked : ℕ) (h : InSecond e w (Some words) steps asked) where
   -- both passes behind so many statements
   abbrev first_at : ℕ → After
   first_at k = after (at_time (first_setting e) h.time) (first_start e) k
@@ -387,7 +387,7 @@ module _ (e : Errand) (w : Walk) (words : List ℕ) (steps asked : ℕ) (h : InS
     second_goes index next = record {
       act = second_site.0;
       site = second_site.1;
-      walk = with_second w second_end.machine;
+      workspace = with_second w second_end.machine;
       left = second_end.machine.words;
       to = at Second index;
       next = tt;
@@ -402,14 +402,14 @@ module _ (e : Errand) (w : Walk) (words : List ℕ) (steps asked : ℕ) (h : InS
     second_halts halts = record {
       act = second_site.0;
       site = second_site.1;
-      walk = closed (with_second w second_end.machine);
+      workspace = closed (with_second w second_end.machine);
       left = second_end.machine.words;
       to = at Compare 0;
       next = tt;
       acts =
           second_acts
           ∙ ap (λ (o : Outcome). honest (second_from (with_second w second_end.machine) second_end.machine.words o)) halts
-          ∙ closes_in_turn Second (with_second w second_end.machine) second_end.machine.words (at Compare 0) h.is.gate;
+          ∙ closes_in_step Second (with_second w second_end.machine) second_end.machine.words (at Compare 0) h.is.gate;
       want = refl;
       more = weighed second_step + 1;
       asks = second_asks_closing halts;
@@ -422,6 +422,6 @@ module _ (e : Errand) (w : Walk) (words : List ℕ) (steps asked : ℕ) (h : InS
     second_ends (Aborting cause bad) = absurd (second_never_bad cause bad)
 
 -- a statement of the second pass leads to the next one, or to the start of Compare
-pub second_on : (e : Errand) (now : ℕ) (w : Walk) (words : List ℕ) (steps asked : ℕ) → w.want ≡ Nothing →
+pub second_on : (e : CallContext) (now : ℕ) (w : Workspace) (words : List ℕ) (steps asked : ℕ) → w.want ≡ Nothing →
     InSecond e w (Some words) steps asked → GoesOn e (given_in e) now Second w words Some steps asked
 second_on e now w words steps asked nothing h = second_ends e w words steps asked h now nothing (ends_in (second_end e w words steps asked h).outcome)

@@ -8,17 +8,17 @@ use Rattle.sei_fault.specs.declared.place.Phase.{Phase}
 use Rattle.sei_fault.specs.declared.place.Phase.TheVariants.{Guard, Take, First, Restore, Second, Compare, Verify, Enter, Give, Send, Done}
 use Rattle.sei_fault.specs.Question.{Question, Answer, honestly_to}
 use Rattle.sei_fault.proofs.PublicChains.{chain_keeps, chain_relates, chain_isolates}
-use Rattle.sei_words.specs.Loan.{words_of, bucket_of, place_of}
+use Rattle.sei_words.specs.LentBucket.{words_of, bucket_of, place_of}
 use Rattle.sei_words.specs.Words.{BucketWords}
 use Rattle.sei_traverse.specs.declared.turned.State.{State}
 use Rattle.sei_traverse.specs.declared.turned.State.TheVariants.{Went, Finished, Refused, Aborted}
 use Rattle.sei_traverse.specs.declared.turned.Turned.{Turned}
 use Rattle.sei_traverse.specs.declared.turned.Want.{Want}
 use Rattle.sei_traverse.specs.declared.turned.Want.TheVariants.{Nothing}
-use Rattle.sei_traverse.specs.declared.walk.Walk.{Walk}
+use Rattle.sei_traverse.specs.declared.workspace.Workspace.{Workspace}
 use Rattle.sei_traverse.specs.Bounds.{StepsWithin, StepsAfter}
-use Rattle.sei_traverse.specs.Errand.{Errand, IsErrand}
-use Rattle.sei_traverse.specs.Facts.{Facts, LendsWanted, Isolates}
+use Rattle.sei_traverse.specs.CallContext.{CallContext, IsCallContext}
+use Rattle.sei_traverse.specs.FaultInvariant.{FaultInvariant, LendsWanted, Isolates}
 use Rattle.sei_traverse.specs.Noting.{NotesTime}
 use Rattle.sei_traverse.specs.Noting.NotesTime.{Same}
 use Rattle.sei_traverse.specs.OnWay.{lent_words, Lends, LendsBucketOf, TellsAs, OnWay, OnWayAfter, StaysOnWay}
@@ -26,7 +26,7 @@ use Rattle.sei_traverse.specs.Running.{On, Makes, Quiet, RunsOn}
 use Rattle.sei_traverse.specs.Given.{given_of, bucket_or_zero}
 use Rattle.sei_stmt.specs.Handling.{Behavior}
 use Rattle.sei_traverse.specs.State.{TraversalState, IsTraversal}
-use Rattle.sei_traverse.specs.Step.{turn, turn_tree}
+use Rattle.sei_traverse.specs.Step.{step_result, traversal_step}
 use Rattle.sei_traverse.specs.Trusted.{IsTrusted}
 use Rattle.sei_traverse.specs.Unstruck.{take_want, want_in, IsLent, NextIn}
 use Rattle.sei_traverse.specs.Wanting.{Steps}
@@ -35,21 +35,21 @@ use Rattle.sei_traverse.proofs.Isolated.{isolates_one}
 use Rattle.sei_traverse.proofs.NotingLaws.{behind}
 use Rattle.sei_traverse.proofs.Onward.{stays_on_way_given}
 use Rattle.sei_traverse.proofs.StepsBound.{steps_after_turned, room_left_turned}
-use Rattle.sei_traverse.proofs.TurnLaws.{same_bucket}
+use Rattle.sei_traverse.proofs.StepResultLaws.{same_bucket}
 
 -- What is lent in the next phase.
 
-none_left : (loan left : Option BucketWords) → place_of left ≡ place_of loan → loan ≡ None → left ≡ None
-none_left loan None p h = refl
+none_left : (lent_bucket left : Option BucketWords) → place_of left ≡ place_of lent_bucket → lent_bucket ≡ None → left ≡ None
+none_left lent_bucket None p h = refl
 none_left None (Some b) p h = absurd cc
 none_left (Some a) (Some b) p h = absurd cc
 
-bucket_left : (wanted : ℕ) (loan left : Option BucketWords) → place_of left ≡ place_of loan → LendsBucketOf wanted loan → LendsBucketOf wanted left
+bucket_left : (wanted : ℕ) (lent_bucket left : Option BucketWords) → place_of left ≡ place_of lent_bucket → LendsBucketOf wanted lent_bucket → LendsBucketOf wanted left
 bucket_left wanted None left p h = absurd h
 bucket_left wanted (Some a) None p h = absurd cc
 bucket_left wanted (Some a) (Some b) p h = ap bucket_or_zero (same_bucket (Some b) (Some a) p) ∙ h
 
-lent_in : (e : Errand) (left : Option BucketWords) (next : Phase) → IsLent next → LendsBucketOf e.call.bucket left → Lends e next left
+lent_in : (e : CallContext) (left : Option BucketWords) (next : Phase) → IsLent next → LendsBucketOf e.call.bucket left → Lends e next left
 lent_in e left Guard i h = absurd i
 lent_in e left Take i h = absurd i
 lent_in e left First i h = h
@@ -63,29 +63,29 @@ lent_in e left Send i h = absurd i
 lent_in e left Done i h = absurd i
 
 -- after a step that wants nothing, where no strike fell
-module _ (e : Errand) (w : Walk) (loan left : Option BucketWords) (next : Phase) (place : place_of left ≡ place_of loan) where
-  still_none : (to : Phase) → loan ≡ None → (left ≡ None → Lends e to left) → next ≡ to → Lends e next left
-  still_none to h lends is = subst (λ (p : Phase). Lends e p left) (sym is) (lends (none_left loan left place h))
+module _ (e : CallContext) (w : Workspace) (lent_bucket left : Option BucketWords) (next : Phase) (place : place_of left ≡ place_of lent_bucket) where
+  still_none : (to : Phase) → lent_bucket ≡ None → (left ≡ None → Lends e to left) → next ≡ to → Lends e next left
+  still_none to h lends is = subst (λ (p : Phase). Lends e p left) (sym is) (lends (none_left lent_bucket left place h))
 
-  take_next : (index : ℕ) → loan ≡ None → Nothing ≡ take_want e index → NextIn Take index next → Lends e next left
+  take_next : (index : ℕ) → lent_bucket ≡ None → Nothing ≡ take_want e index → NextIn Take index next → Lends e next left
   take_next zero h nothing to = still_none Take h (λ k. k) to
   take_next (suc index) h nothing to = absurd cc
 
-  lends_on : (p : Phase) → Lends e p loan → Nothing ≡ want_in e w p → NextIn p w.place.index next → Lends e next left
+  lends_on : (p : Phase) → Lends e p lent_bucket → Nothing ≡ want_in e w p → NextIn p w.place.index next → Lends e next left
   lends_on Guard h nothing to = still_none Take h (λ k. k) to
   lends_on Take h nothing to = take_next w.place.index h nothing to
-  lends_on First h nothing to = lent_in e left next to (bucket_left e.call.bucket loan left place h)
-  lends_on Restore h nothing to = lent_in e left next to (bucket_left e.call.bucket loan left place h)
-  lends_on Second h nothing to = lent_in e left next to (bucket_left e.call.bucket loan left place h)
-  lends_on Compare h nothing to = lent_in e left next to (bucket_left e.call.bucket loan left place h)
-  lends_on Verify h nothing to = lent_in e left next to (bucket_left e.call.bucket loan left place h)
+  lends_on First h nothing to = lent_in e left next to (bucket_left e.call.bucket lent_bucket left place h)
+  lends_on Restore h nothing to = lent_in e left next to (bucket_left e.call.bucket lent_bucket left place h)
+  lends_on Second h nothing to = lent_in e left next to (bucket_left e.call.bucket lent_bucket left place h)
+  lends_on Compare h nothing to = lent_in e left next to (bucket_left e.call.bucket lent_bucket left place h)
+  lends_on Verify h nothing to = lent_in e left next to (bucket_left e.call.bucket lent_bucket left place h)
   lends_on Enter h nothing to = absurd cc
   lends_on Give h nothing to = absurd cc
   lends_on Send h nothing to = still_none Done h (λ k. k) to
   lends_on Done h nothing to = still_none Done h (λ k. k) to
 
 -- where a strike fell, being on the way says no more
-struck_on_way : (e : Errand) (old new : TraversalState) (lent : Option (List ℕ)) (begin now : Counts) (want : Want) → begin.struck < now.struck → (state : State) → StaysOnWay e old new lent begin now want state
+struck_on_way : (e : CallContext) (old new : TraversalState) (lent : Option (List ℕ)) (begin now : Counts) (want : Want) → begin.struck < now.struck → (state : State) → StaysOnWay e old new lent begin now want state
 struck_on_way e old new lent begin now want more state = record { goes = by state; wants = λ same. absurd (omega (arith, more, same)); next = λ same. absurd (omega (arith, more, same)) }
   where
     by : (o : State) → OnWayAfter e new lent begin now o
@@ -117,8 +117,8 @@ module _ {S : Type 0} (gives : S → (q : Question) → Answer q → S → Type 
       RunsOn gives counts told behavior input n x z t → Relation x z
   run_relates Relation n x z t here on r = on r.last z t r.makes (chain_relates IsQuiet Relation n x r.last here (λ a b q. on a b (record { want = Nothing; state = Went }) q) r.chain)
 
-  pub run_sealed : (n : ℕ) (x z : On S) (t : Turned) → RunsOn gives counts told behavior input n x z t → z.traversal.walk.sealed ≡ x.traversal.walk.sealed
-  run_sealed n x z t = run_relates (λ a b. b.traversal.walk.sealed ≡ a.traversal.walk.sealed) n x z t refl (λ a b s m e. m.sealed ∙ e)
+  pub run_sealed : (n : ℕ) (x z : On S) (t : Turned) → RunsOn gives counts told behavior input n x z t → z.traversal.workspace.sealed ≡ x.traversal.workspace.sealed
+  run_sealed n x z t = run_relates (λ a b. b.traversal.workspace.sealed ≡ a.traversal.workspace.sealed) n x z t refl (λ a b s m e. m.sealed ∙ e)
 
   pub run_space : (n : ℕ) (x z : On S) (t : Turned) → RunsOn gives counts told behavior input n x z t → z.traversal.space ≡ x.traversal.space
   run_space n x z t = run_relates (λ a b. b.traversal.space ≡ a.traversal.space) n x z t refl (λ a b s m e. m.space ∙ e)
@@ -134,9 +134,9 @@ module _ {S : Type 0} (gives : S → (q : Question) → Answer q → S → Type 
   pub run_steps : (n : ℕ) (x z : On S) (t : Turned) → x.traversal.steps ≤ 2 ^ 64 - 1 → RunsOn gives counts told behavior input n x z t → z.traversal.steps ≡ min (x.traversal.steps + suc n) (2 ^ 64 - 1)
   run_steps n x z t small r = omega (arith, r.makes.steps, chain_steps n x r.last small r.chain)
 
-  pub run_noted : (n : ℕ) (x z : On S) (t : Turned) → RunsOn gives counts told behavior input n x z t → NotesTime told x.traversal.walk.notes.now z.traversal.walk.notes.now
-  run_noted n x z t = run_relates (λ a b. NotesTime told a.traversal.walk.notes.now b.traversal.walk.notes.now) n x z t (Same refl)
-      (λ a b s m h. behind told x.traversal.walk.notes.now a.traversal.walk.notes.now b.traversal.walk.notes.now h m.noted)
+  pub run_noted : (n : ℕ) (x z : On S) (t : Turned) → RunsOn gives counts told behavior input n x z t → NotesTime told x.traversal.workspace.notes.now z.traversal.workspace.notes.now
+  run_noted n x z t = run_relates (λ a b. NotesTime told a.traversal.workspace.notes.now b.traversal.workspace.notes.now) n x z t (Same refl)
+      (λ a b s m h. behind told x.traversal.workspace.notes.now a.traversal.workspace.notes.now b.traversal.workspace.notes.now h m.noted)
 
   pub run_asked : (n : ℕ) (x z : On S) (t : Turned) → RunsOn gives counts told behavior input n x z t → min (counts x.core).asked (2 ^ 128 - 1) ≤ (counts z.core).asked
   run_asked n x z t = run_relates (λ a b. min (counts a.core).asked (2 ^ 128 - 1) ≤ (counts b.core).asked) n x z t (omega arith) (λ a b s m h. omega (arith, m.asked, h))
@@ -155,7 +155,7 @@ module _ {S : Type 0} (gives : S → (q : Question) → Answer q → S → Type 
 
     makes_room : (a b : On S) (s : Turned) → Makes gives counts told behavior input a b s → Lowers a b
     makes_room a b s m r e =
-        room_left_turned gives counts law told (λ now later. turn_tree (given_of behavior input a.traversal.space (bucket_of a.lent)) now later a.traversal.walk (words_of a.lent)) a.core b.core (turn b.traversal.walk (words_of b.lent) s.state) m.turned r e
+        room_left_turned gives counts law told (λ now later. traversal_step (given_of behavior input a.traversal.space (bucket_of a.lent)) now later a.traversal.workspace (words_of a.lent)) a.core b.core (step_result b.traversal.workspace (words_of b.lent) s.state) m.turned r e
 
     pub run_room : (n : ℕ) (x z : On S) (t : Turned) → RunsOn gives counts told behavior input n x z t → Lowers x z
     run_room n x z t = run_relates Lowers n x z t (λ r e. (r, e, refl))
@@ -175,11 +175,11 @@ module _ {S : Type 0} (gives : S → (q : Question) → Answer q → S → Type 
         let last : IsWithin begin r.last = chain_keeps IsQuiet (IsWithin begin) n x r.last (λ a b q h. (q.rooms, makes_within begin a b (record { want = Nothing; state = Went }) q h.0 h.1)) r.chain (is, within) in
         makes_within begin r.last z t r.makes last.0 last.1
 
-    module _ (e : Errand) (begin : Counts) (same_behavior : e.behavior ≡ behavior) (same_input : e.input ≡ input) (tells : TellsAs e.clock told) where
+    module _ (e : CallContext) (begin : Counts) (same_behavior : e.behavior ≡ behavior) (same_input : e.input ≡ input) (tells : TellsAs e.clock told) where
       -- one strike is isolated
 
       abbrev IsKnown : On S → Type 0
-      IsKnown a = LendsWanted a.traversal.walk a.lent × Facts e a.traversal (lent_words a.lent) begin (counts a.core)
+      IsKnown a = LendsWanted a.traversal.workspace a.lent × FaultInvariant e a.traversal (lent_words a.lent) begin (counts a.core)
 
       makes_isolated : IsTrusted e → (a b : On S) (s : Turned) → Makes gives counts told behavior input a b s → (counts b.core).struck ≤ begin.struck + 1 → IsKnown a →
           Isolates e a.traversal b.traversal a.lent b.lent begin (counts b.core) s.want s.state
@@ -190,7 +190,7 @@ module _ {S : Type 0} (gives : S → (q : Question) → Answer q → S → Type 
       quiet_known : IsTrusted e → (a b : On S) → IsQuiet a b → (counts b.core).struck ≤ begin.struck + 1 → IsKnown a → IsKnown b
       quiet_known trusted a b q few known = let i = makes_isolated trusted a b (record { want = Nothing; state = Went }) q few known in (i.lends refl, i.goes)
 
-      pub run_isolated : (n : ℕ) (x z : On S) (t : Turned) → IsTrusted e → (r : RunsOn gives counts told behavior input n x z t) → LendsWanted x.traversal.walk x.lent → Facts e x.traversal (lent_words x.lent) begin (counts x.core) →
+      pub run_isolated : (n : ℕ) (x z : On S) (t : Turned) → IsTrusted e → (r : RunsOn gives counts told behavior input n x z t) → LendsWanted x.traversal.workspace x.lent → FaultInvariant e x.traversal (lent_words x.lent) begin (counts x.core) →
           (counts z.core).struck ≤ begin.struck + 1 → Isolates e r.last.traversal z.traversal r.last.lent z.lent begin (counts z.core) t.want t.state
       run_isolated n x z t trusted r lends facts few =
           let last = chain_isolates IsQuiet IsKnown (λ a. (counts a.core).struck) (begin.struck + 1) n x r.last (λ a b q. q.struck) (quiet_known trusted) r.chain (omega (arith, r.makes.struck, few)) (lends, facts) in
@@ -215,7 +215,7 @@ module _ {S : Type 0} (gives : S → (q : Question) → Answer q → S → Type 
                 (stepped trusted (wants ++ replicate n Nothing) y z (record { want = Nothing; state = Went }) q few before.0 before.1),
           )
 
-      pub run_stepped : (wants : List Want) (n : ℕ) (x z : On S) (t : Turned) → IsTrusted e → RunsOn gives counts told behavior input n x z t → LendsWanted x.traversal.walk x.lent → Facts e x.traversal (lent_words x.lent) begin (counts x.core) →
+      pub run_stepped : (wants : List Want) (n : ℕ) (x z : On S) (t : Turned) → IsTrusted e → RunsOn gives counts told behavior input n x z t → LendsWanted x.traversal.workspace x.lent → FaultInvariant e x.traversal (lent_words x.lent) begin (counts x.core) →
           (counts z.core).struck ≤ begin.struck + 1 → Steps e begin wants x.traversal Went → Steps e begin ((wants ++ replicate n Nothing) ++ t.want ∷ []) z.traversal t.state
       run_stepped wants n x z t trusted r lends facts few steps =
           let before = chain_stepped trusted wants n x r.last r.chain (omega (arith, r.makes.struck, few)) (lends, facts) steps in
@@ -223,34 +223,34 @@ module _ {S : Type 0} (gives : S → (q : Question) → Answer q → S → Type 
 
       -- a traversal that is on its way stays on it
 
-      makes_on_way : IsErrand e → (a b : On S) (s : Turned) → Makes gives counts told behavior input a b s → Lends e a.traversal.walk.place.phase a.lent → OnWay e a.traversal (lent_words a.lent) begin (counts a.core) →
+      makes_on_way : IsCallContext e → (a b : On S) (s : Turned) → Makes gives counts told behavior input a b s → Lends e a.traversal.workspace.place.phase a.lent → OnWay e a.traversal (lent_words a.lent) begin (counts a.core) →
           StaysOnWay e a.traversal b.traversal (lent_words b.lent) begin (counts b.core) s.want s.state
-      makes_on_way errand a b s m lends way =
+      makes_on_way call_context a b s m lends way =
           subst (λ (w : Want). StaysOnWay e a.traversal b.traversal (lent_words b.lent) begin (counts b.core) w s.state) (sym m.want)
-          (stays_on_way_given gives counts law told e begin a.traversal b.traversal a.lent b.lent s.state a.core b.core behavior input same_behavior same_input m.turned m.lent m.space m.steps errand tells lends way)
+          (stays_on_way_given gives counts law told e begin a.traversal b.traversal a.lent b.lent s.state a.core b.core behavior input same_behavior same_input m.turned m.lent m.space m.steps call_context tells lends way)
 
       record IsOnWay (a : On S) : Type 0 where
         later : begin.struck ≤ (counts a.core).struck
-        lends : (counts a.core).struck ≡ begin.struck → Lends e a.traversal.walk.place.phase a.lent
+        lends : (counts a.core).struck ≡ begin.struck → Lends e a.traversal.workspace.place.phase a.lent
         way : (counts a.core).struck ≡ begin.struck → OnWay e a.traversal (lent_words a.lent) begin (counts a.core)
 
-      quiet_on_way : IsErrand e → (a b : On S) → IsQuiet a b → IsOnWay a → IsOnWay b
-      quiet_on_way errand a b q h =
+      quiet_on_way : IsCallContext e → (a b : On S) → IsQuiet a b → IsOnWay a → IsOnWay b
+      quiet_on_way call_context a b q h =
           let before : (counts b.core).struck ≡ begin.struck → (counts a.core).struck ≡ begin.struck = λ same. omega (arith, same, h.later, q.struck) in
-          let stays = λ (same : (counts b.core).struck ≡ begin.struck). makes_on_way errand a b (record { want = Nothing; state = Went }) q (h.lends (before same)) (h.way (before same)) in
+          let stays = λ (same : (counts b.core).struck ≡ begin.struck). makes_on_way call_context a b (record { want = Nothing; state = Went }) q (h.lends (before same)) (h.way (before same)) in
           record {
             later = omega (arith, h.later, q.struck);
-            lends = λ same. lends_on e a.traversal.walk a.lent b.lent b.traversal.walk.place.phase q.lent a.traversal.walk.place.phase (h.lends (before same)) ((stays same).wants same) ((stays same).next same);
+            lends = λ same. lends_on e a.traversal.workspace a.lent b.lent b.traversal.workspace.place.phase q.lent a.traversal.workspace.place.phase (h.lends (before same)) ((stays same).wants same) ((stays same).next same);
             way = λ same. (stays same).goes;
           }
 
-      pub run_on_way : (n : ℕ) (x z : On S) (t : Turned) → IsErrand e → (r : RunsOn gives counts told behavior input n x z t) → Lends e x.traversal.walk.place.phase x.lent → OnWay e x.traversal (lent_words x.lent) begin (counts x.core) →
+      pub run_on_way : (n : ℕ) (x z : On S) (t : Turned) → IsCallContext e → (r : RunsOn gives counts told behavior input n x z t) → Lends e x.traversal.workspace.place.phase x.lent → OnWay e x.traversal (lent_words x.lent) begin (counts x.core) →
           StaysOnWay e r.last.traversal z.traversal (lent_words z.lent) begin (counts z.core) t.want t.state
-      run_on_way n x z t errand r lends way = by_strikes (same_or_more begin.struck (counts r.last.core).struck last.later)
+      run_on_way n x z t call_context r lends way = by_strikes (same_or_more begin.struck (counts r.last.core).struck last.later)
         where
           last : IsOnWay r.last
-          last = chain_keeps IsQuiet IsOnWay n x r.last (quiet_on_way errand) r.chain (record { later = way.later; lends = λ same. lends; way = λ same. way })
+          last = chain_keeps IsQuiet IsOnWay n x r.last (quiet_on_way call_context) r.chain (record { later = way.later; lends = λ same. lends; way = λ same. way })
 
           by_strikes : ((counts r.last.core).struck ≡ begin.struck) ⊎ (begin.struck < (counts r.last.core).struck) → StaysOnWay e r.last.traversal z.traversal (lent_words z.lent) begin (counts z.core) t.want t.state
-          by_strikes (inl same) = makes_on_way errand r.last z t r.makes (last.lends same) (last.way same)
+          by_strikes (inl same) = makes_on_way call_context r.last z t r.makes (last.lends same) (last.way same)
           by_strikes (inr more) = struck_on_way e r.last.traversal z.traversal (lent_words z.lent) begin (counts z.core) t.want (omega (arith, more, r.makes.struck)) t.state

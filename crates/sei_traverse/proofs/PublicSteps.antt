@@ -2,12 +2,12 @@
 use Rattle.std.proofs.Common.{◌≡◌, ℕ, ◌+◌, ◌≤◌, List, Option}
 use Rattle.sei_fault.specs.Counts.{Counts, Answered}
 use Rattle.sei_fault.specs.Question.{Question, Answer, honestly_to}
-use Rattle.sei_words.specs.Loan.{words_of, bucket_of}
+use Rattle.sei_words.specs.LentBucket.{words_of, bucket_of}
 use Rattle.sei_stmt.specs.Handling.{Behavior}
 use Rattle.sei_traverse.specs.declared.turned.State.{State}
 use Rattle.sei_traverse.specs.Bounds.{StepsWithin, StepsAfter}
-use Rattle.sei_traverse.specs.Errand.{Errand, IsErrand}
-use Rattle.sei_traverse.specs.Facts.{Facts, LendsWanted, Isolates}
+use Rattle.sei_traverse.specs.CallContext.{CallContext, IsCallContext}
+use Rattle.sei_traverse.specs.FaultInvariant.{FaultInvariant, LendsWanted, Isolates}
 use Rattle.sei_traverse.specs.Given.{given_of}
 use Rattle.sei_traverse.specs.OnWay.{lent_words, Lends, TellsAs, OnWay, StaysOnWay}
 use Rattle.sei_traverse.specs.Running.{On, StepsTo}
@@ -21,9 +21,9 @@ module _ {S : Type 0} (gives : S → (q : Question) → Answer q → S → Type 
     (law : (s : S) (q : Question) (a : Answer q) (t : S) → gives s q a t → Answered (a ≡ honestly_to q) (counts s) (counts t))
     (told : Option ℕ) (behavior : Behavior) (input : List ℕ) (x y : On S) (state : State) (step : StepsTo gives told behavior input x y state) where
   -- one strike is isolated
-  pub step_isolates : (e : Errand) (begin : Counts) → IsTrusted e → TellsAs e.clock told → e.behavior ≡ behavior → e.input ≡ input →
-      LendsWanted x.traversal.walk x.lent → Facts e x.traversal (lent_words x.lent) begin (counts x.core) → (counts y.core).struck ≤ begin.struck + 1 →
-      Isolates e x.traversal y.traversal x.lent y.lent begin (counts y.core) y.traversal.walk.want state
+  pub step_isolates : (e : CallContext) (begin : Counts) → IsTrusted e → TellsAs e.clock told → e.behavior ≡ behavior → e.input ≡ input →
+      LendsWanted x.traversal.workspace x.lent → FaultInvariant e x.traversal (lent_words x.lent) begin (counts x.core) → (counts y.core).struck ≤ begin.struck + 1 →
+      Isolates e x.traversal y.traversal x.lent y.lent begin (counts y.core) y.traversal.workspace.want state
   step_isolates e begin trusted tells same_behavior same_input lends facts few =
       isolates_one gives counts law told e begin x.traversal y.traversal x.lent y.lent state x.core y.core behavior input same_behavior same_input
       step.turned step.lent step.space step.steps step.sealed trusted tells lends facts few
@@ -35,9 +35,9 @@ module _ {S : Type 0} (gives : S → (q : Question) → Answer q → S → Type 
       step.turned is step.space step.steps within
 
   -- a traversal that is on its way stays on it
-  pub step_on_way : (e : Errand) (begin : Counts) → IsErrand e → TellsAs e.clock told → e.behavior ≡ behavior → e.input ≡ input →
-      Lends e x.traversal.walk.place.phase x.lent → OnWay e x.traversal (lent_words x.lent) begin (counts x.core) →
-      StaysOnWay e x.traversal y.traversal (lent_words y.lent) begin (counts y.core) y.traversal.walk.want state
-  step_on_way e begin errand tells same_behavior same_input lends way =
+  pub step_on_way : (e : CallContext) (begin : Counts) → IsCallContext e → TellsAs e.clock told → e.behavior ≡ behavior → e.input ≡ input →
+      Lends e x.traversal.workspace.place.phase x.lent → OnWay e x.traversal (lent_words x.lent) begin (counts x.core) →
+      StaysOnWay e x.traversal y.traversal (lent_words y.lent) begin (counts y.core) y.traversal.workspace.want state
+  step_on_way e begin call_context tells same_behavior same_input lends way =
       stays_on_way_given gives counts law told e begin x.traversal y.traversal x.lent y.lent state x.core y.core behavior input same_behavior same_input
-      step.turned step.lent step.space step.steps errand tells lends way
+      step.turned step.lent step.space step.steps call_context tells lends way

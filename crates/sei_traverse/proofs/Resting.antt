@@ -7,22 +7,22 @@ use Rattle.sei_fault.proofs.Public.{runs_bound}
 use Rattle.sei_pass.specs.declared.loops.Exit.{Exit}
 use Rattle.sei_pass.proofs.Public.{some_answer}
 use Rattle.sei_traverse.specs.declared.turned.Want.TheVariants.{Nothing}
-use Rattle.sei_traverse.specs.declared.walk.Ending.{Ending}
-use Rattle.sei_traverse.specs.declared.walk.Walk.{Walk}
+use Rattle.sei_traverse.specs.declared.workspace.Ending.{Ending}
+use Rattle.sei_traverse.specs.declared.workspace.Workspace.{Workspace}
 use Rattle.sei_traverse.specs.Acts.{acted, at, closes}
 use Rattle.sei_traverse.specs.Running.{rest}
 use Rattle.sei_traverse.specs.Given.{Given}
-use Rattle.sei_traverse.specs.Step.{Turn, next_phase, goes_from, goes_on, TimedTwice}
+use Rattle.sei_traverse.specs.Step.{StepResult, next_phase, goes_from, goes_on, TimedTwice}
 
-module _ {S : Type 0} (gives : S → (q : Question) → Answer q → S → Type 0) (w : Walk) (words : List ℕ) where
+module _ {S : Type 0} (gives : S → (q : Question) → Answer q → S → Type 0) (w : Workspace) (words : List ℕ) where
   -- the phase is closed, and the step goes on to the next one
-  pub halted_runs : (next : Phase) (v : Walk) (e : Ending) (s m t : S) (y : Turn) → next ≡ next_phase w.place.phase → Runs gives (closes w.place.phase w words Nothing (at next 0)) s m (acted v words e) →
+  pub halted_runs : (next : Phase) (v : Workspace) (e : Ending) (s m t : S) (y : StepResult) → next ≡ next_phase w.place.phase → Runs gives (closes w.place.phase w words Nothing (at next 0)) s m (acted v words e) →
       Runs gives (goes_from v words e) m t y → Runs gives (bound (closes w.place.phase w words Nothing (at (next_phase w.place.phase) 0)) goes_on) s t y
   halted_runs next v e s m t y is closed on =
       runs_bound gives (closes w.place.phase w words Nothing (at (next_phase w.place.phase) 0)) goes_on s m t (acted v words e) y
       (subst (λ (p : Phase). Runs gives (closes w.place.phase w words Nothing (at p 0)) s m (acted v words e)) is closed) on
 
-  module _ (told : Option ℕ) (g : Given) (exit : Exit) (s t : S) (y : Turn) where
+  module _ (told : Option ℕ) (g : Given) (exit : Exit) (s t : S) (y : StepResult) where
     -- the loop left the step so
     pub rest_is : (other : Exit) → exit ≡ other → TimedTwice gives told (λ now later. rest g now later w words other) s t y → TimedTwice gives told (λ now later. rest g now later w words exit) s t y
     rest_is other e r = subst (λ (x : Exit). TimedTwice gives told (λ now later. rest g now later w words x) s t y) (sym e) r

@@ -5,48 +5,48 @@ use Rattle.sei_fault.specs.declared.place.Phase.TheVariants.{Guard, Take, First,
 use Rattle.sei_stmt.specs.Machine.{Machine, After}
 use Rattle.sei_stmt.specs.Honest.{after}
 use Rattle.sei_traverse.specs.declared.turned.Want.{Want}
-use Rattle.sei_traverse.specs.declared.walk.Walk.{Walk}
+use Rattle.sei_traverse.specs.declared.workspace.Workspace.{Workspace}
 use Rattle.sei_traverse.specs.Comes.{at_time}
-use Rattle.sei_traverse.specs.Errand.{Errand, IsErrand, Whole, first_setting, first_start}
+use Rattle.sei_traverse.specs.CallContext.{CallContext, IsCallContext, Whole, first_setting, first_start}
 use Rattle.sei_traverse.specs.Unstruck.{IsOf, FirstIsNew, SecondIsNew, FirstIsDone, SecondIsDone, before_enter, FirstAt, InBoth, HasOutput, CleanIn, IsFinished}
 use Rattle.sei_traverse.proofs.LogLaws.{room_kept}
 use Rattle.sei_traverse.proofs.TimeLaws.{ends_so}
 
 -- Fewer steps and another want.
 
--- the walk that wants this
-abbrev wanting : Walk → Want → Walk
+-- the workspace that wants this
+abbrev wanting : Workspace → Want → Workspace
 wanting w n = record w { want = n }
 
-is_of : (e : Errand) (w : Walk) (n : Want) (p : Phase) → IsOf e w p → IsOf e (wanting w n) p
+is_of : (e : CallContext) (w : Workspace) (n : Want) (p : Phase) → IsOf e w p → IsOf e (wanting w n) p
 is_of e w n p is = record { sealed = is.sealed; gate = is.gate }
 
-first_new : (e : Errand) (w : Walk) (n : Want) → FirstIsNew e w → FirstIsNew e (wanting w n)
+first_new : (e : CallContext) (w : Workspace) (n : Want) → FirstIsNew e w → FirstIsNew e (wanting w n)
 first_new e w n x = record { first = x.first; first_log = x.first_log; notes = x.notes }
 
-second_new : (e : Errand) (w : Walk) (n : Want) → SecondIsNew e w → SecondIsNew e (wanting w n)
+second_new : (e : CallContext) (w : Workspace) (n : Want) → SecondIsNew e w → SecondIsNew e (wanting w n)
 second_new e w n x = record { second = x.second; second_log = x.second_log }
 
-first_done : (e : Errand) (w : Walk) (n : Want) (end : Machine) → FirstIsDone e w end → FirstIsDone e (wanting w n) end
+first_done : (e : CallContext) (w : Workspace) (n : Want) (end : Machine) → FirstIsDone e w end → FirstIsDone e (wanting w n) end
 first_done e w n end x = record { first = x.first; first_log = x.first_log; notes = x.notes }
 
-second_done : (e : Errand) (w : Walk) (n : Want) (end : Machine) → SecondIsDone e w end → SecondIsDone e (wanting w n) end
+second_done : (e : CallContext) (w : Workspace) (n : Want) (end : Machine) → SecondIsDone e w end → SecondIsDone e (wanting w n) end
 second_done e w n end x = record { second = x.second; second_log = x.second_log }
 
-first_at : (e : Errand) (w : Walk) (n : Want) (lent : Option (List ℕ)) (s t asked : ℕ) → s ≤ t → FirstAt e w lent t asked → FirstAt e (wanting w n) lent s asked
+first_at : (e : CallContext) (w : Workspace) (n : Want) (lent : Option (List ℕ)) (s t asked : ℕ) → s ≤ t → FirstAt e w lent t asked → FirstAt e (wanting w n) lent s asked
 first_at e w n None s t asked le x = record { index = x.index; first = first_new e w n x.first; number = omega (arith, le, x.number); questions = x.questions }
 first_at e w n (Some words) s t asked le x = record { space = x.space; made = x.made; comes = x.comes; told = x.told; number = omega (arith, le, x.number) }
 
-in_both : (e : Errand) (w : Walk) (n : Want) (lent : Option (List ℕ)) (time made : ℕ) (end : Machine) (asked : ℕ) → InBoth e w lent time made end asked →
+in_both : (e : CallContext) (w : Workspace) (n : Want) (lent : Option (List ℕ)) (time made : ℕ) (end : Machine) (asked : ℕ) → InBoth e w lent time made end asked →
     InBoth e (wanting w n) lent time made end asked
 in_both e w n lent time made end asked x =
     record { whole = x.whole; first = first_done e w n end x.first; second = second_done e w n end x.second; words = x.words; questions = x.questions }
 
-is_answered : (e : Errand) (w : Walk) (n : Want) (time made : ℕ) (end : Machine) (asked : ℕ) → HasOutput e w time made end asked → HasOutput e (wanting w n) time made end asked
+is_answered : (e : CallContext) (w : Workspace) (n : Want) (time made : ℕ) (end : Machine) (asked : ℕ) → HasOutput e w time made end asked → HasOutput e (wanting w n) time made end asked
 is_answered e w n time made end asked x = record { whole = x.whole; second = second_done e w n end x.second; notes = x.notes; copy = x.copy; questions = x.questions }
 
 -- where a traversal stands after some steps, it stands by any smaller number too, whatever it wants
-pub settles : (e : Errand) (w : Walk) (n : Want) (lent : Option (List ℕ)) (s t asked : ℕ) (p : Phase) → s ≤ t → CleanIn e w lent t asked p →
+pub settles : (e : CallContext) (w : Workspace) (n : Want) (lent : Option (List ℕ)) (s t asked : ℕ) (p : Phase) → s ≤ t → CleanIn e w lent t asked p →
     CleanIn e (record w { want = n }) lent s asked p
 settles e w n lent s t asked Guard le c = record {
   is = is_of e w n Guard c.is;
@@ -159,7 +159,7 @@ settles e w n lent s t asked Done le c = record {
 }
 
 -- the same at its end
-pub settles_end : (e : Errand) (w : Walk) (n : Want) (s t asked : ℕ) → s ≤ t → IsFinished e w t asked → IsFinished e (record w { want = n }) s asked
+pub settles_end : (e : CallContext) (w : Workspace) (n : Want) (s t asked : ℕ) → s ≤ t → IsFinished e w t asked → IsFinished e (record w { want = n }) s asked
 settles_end e w n s t asked le x = record {
   place = x.place;
   gate = x.gate;
@@ -173,7 +173,7 @@ settles_end e w n s t asked le x = record {
 -- How many steps there are.
 
 -- the log of a whole first pass fits into its room
-pub whole_logs : (e : Errand) (time made : ℕ) (end : Machine) → Whole e time made end → length end.log.items ≤ e.space.log
+pub whole_logs : (e : CallContext) (time made : ℕ) (end : Machine) → Whole e time made end → length end.log.items ≤ e.space.log
 whole_logs e time made end whole =
     let g = at_time (first_setting e) time in
     let rooms = room_kept g (first_start e) made in
@@ -183,7 +183,7 @@ whole_logs e time made end whole =
     subst (λ (x : After). length x.machine.log.items ≤ e.space.log) whole.run.halts below
 
 -- a number of steps up to the end is within the bound, where the first pass is whole
-at_most : (e : Errand) (time made : ℕ) (end : Machine) (s : ℕ) → Whole e time made end → s ≤ before_enter made (length end.log.items) + 4 →
+at_most : (e : CallContext) (time made : ℕ) (end : Machine) (s : ℕ) → Whole e time made end → s ≤ before_enter made (length end.log.items) + 4 →
     s ≤ 2 * e.space.budget + 3 * e.space.log + 11
 at_most e time made end s whole h =
     let within : made < e.space.budget = whole.within in
@@ -193,7 +193,7 @@ at_most e time made end s whole h =
     sums : (s made k budget room : ℕ) → made < budget → k ≤ room → s ≤ before_enter made k + 4 → s ≤ 2 * budget + 3 * room + 11
     sums s made k budget room within logs h = omega (arith, within, logs, h)
 
-bounded_first : (e : Errand) → IsErrand e → (w : Walk) (lent : Option (List ℕ)) (s asked : ℕ) → FirstAt e w lent s asked →
+bounded_first : (e : CallContext) → IsCallContext e → (w : Workspace) (lent : Option (List ℕ)) (s asked : ℕ) → FirstAt e w lent s asked →
     s ≤ 2 * e.space.budget + 3 * e.space.log + 11
 bounded_first e is w None s asked x = omega (arith, x.number)
 bounded_first e is w (Some words) s asked x =
@@ -202,7 +202,7 @@ bounded_first e is w (Some words) s asked x =
     omega (arith, within, x.number)
 
 -- a traversal that nothing struck stands nowhere behind so many steps
-pub bounded : (e : Errand) → IsErrand e → (w : Walk) (lent : Option (List ℕ)) (s asked : ℕ) (p : Phase) → CleanIn e w lent s asked p →
+pub bounded : (e : CallContext) → IsCallContext e → (w : Workspace) (lent : Option (List ℕ)) (s asked : ℕ) (p : Phase) → CleanIn e w lent s asked p →
     s ≤ 2 * e.space.budget + 3 * e.space.log + 11
 bounded e is w lent s asked Guard c = omega (arith, c.number)
 bounded e is w lent s asked Take c = omega (arith, c.number, c.index)
@@ -217,7 +217,7 @@ bounded e is w lent s asked Send c = at_most e c.time c.made c.end s c.answered.
 bounded e is w lent s asked Done c = at_most e c.time c.made c.end s c.answered.whole (omega (arith, c.number))
 
 -- and it has ended after so many
-pub bounded_end : (e : Errand) (w : Walk) (s asked : ℕ) → IsFinished e w s asked → s ≤ 2 * e.space.budget + 3 * e.space.log + 11
+pub bounded_end : (e : CallContext) (w : Workspace) (s asked : ℕ) → IsFinished e w s asked → s ≤ 2 * e.space.budget + 3 * e.space.log + 11
 bounded_end e w s asked x = at_most e x.time x.made x.end s x.answered.whole x.number
 
 -- What was asked.

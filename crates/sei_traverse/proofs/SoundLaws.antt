@@ -12,11 +12,11 @@ use Rattle.sei_stmt.specs.Sound.Serves.{Well, Unfit}
 use Rattle.sei_pass.specs.Setting.{is_intact}
 use Rattle.sei_pass.specs.Spaces.{space_in}
 use Rattle.sei_traverse.specs.Comes.{at_time, EndsAt}
-use Rattle.sei_traverse.specs.Errand.{Errand, first_setting, first_start, no_notes, given_in}
+use Rattle.sei_traverse.specs.CallContext.{CallContext, first_setting, first_start, no_notes, given_in}
 use Rattle.sei_traverse.specs.Given.{call_of}
 
-module _ {B : Type 0} (space : List ℕ → ℕ → Space) (Before Stands : List ℕ → B → Type 0) (answer : List ℕ → ℕ → B → ℕ → B × List ℕ) (e : Errand) where
-  -- each pass of the errand's call serves, in the errand's space
+module _ {B : Type 0} (space : List ℕ → ℕ → Space) (Before Stands : List ℕ → B → Type 0) (answer : List ℕ → ℕ → B → ℕ → B × List ℕ) (e : CallContext) where
+  -- each pass of the call context's call serves, in the call context's space
   pub serves_at : IsSound e.behavior space Before Stands answer → All (λ b. b < 256) e.input →
       (nth : ℕ) → e.behavior.parsed e.input nth ≡ Some e.call → space e.input nth ≡ space_in e.space →
       (g : Setting) → IsPassOf e.behavior.statements e.behavior.rendered (space_in e.space) g → IsServed g e.call →

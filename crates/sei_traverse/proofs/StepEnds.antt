@@ -13,17 +13,17 @@ use Rattle.sei_log.proofs.Public.{equal_or}
 use Rattle.sei_traverse.specs.declared.turned.State.{State}
 use Rattle.sei_traverse.specs.declared.turned.State.TheVariants.{Went, Finished, Refused, Aborted}
 use Rattle.sei_traverse.specs.declared.turned.Want.TheVariants.{Nothing, Take as WantTake}
-use Rattle.sei_traverse.specs.declared.walk.Ending.{Ending}
-use Rattle.sei_traverse.specs.declared.walk.Ending.TheVariants.{Leads, Refuses, Aborts}
-use Rattle.sei_traverse.specs.declared.walk.Walk.{Walk}
+use Rattle.sei_traverse.specs.declared.workspace.Ending.{Ending}
+use Rattle.sei_traverse.specs.declared.workspace.Ending.TheVariants.{Leads, Refuses, Aborts}
+use Rattle.sei_traverse.specs.declared.workspace.Workspace.{Workspace}
 use Rattle.sei_traverse.specs.Acts.{Acted, at}
-use Rattle.sei_traverse.specs.Errand.{Errand}
-use Rattle.sei_traverse.specs.Facts.{Knows, StruckCase, Wanted, closing_want, IsAborted}
+use Rattle.sei_traverse.specs.CallContext.{CallContext}
+use Rattle.sei_traverse.specs.FaultInvariant.{Knows, StruckCase, Wanted, closing_want, IsAborted}
 use Rattle.sei_traverse.proofs.ClosesNext.{ClosesNext}
-use Rattle.sei_traverse.specs.Facts.StruckCase.{Right, Lost}
+use Rattle.sei_traverse.specs.FaultInvariant.StruckCase.{Right, Lost}
 use Rattle.sei_traverse.proofs.ClosesNext.ClosesNext.{Stays, Closes, Lacks}
 use Rattle.sei_traverse.specs.Phases.{send_want}
-use Rattle.sei_traverse.specs.Step.{Turn, turn, aborted, is_end, arrival, goes_from, goes_on}
+use Rattle.sei_traverse.specs.Step.{StepResult, step_result, aborted, is_end, arrival, goes_from, goes_on}
 use Rattle.sei_traverse.specs.Struck.{IsAimed, HasCopyOfSome, StruckIn}
 use Rattle.sei_traverse.specs.Trusted.{PassesGuard}
 use Rattle.sei_traverse.specs.Unstruck.{CleanIn}
@@ -98,37 +98,37 @@ end_number p h = is_ten (phase_number p.phase) (left_side (phase_number p.phase 
 
 -- How a step ends.
 
--- what a walk wants is so, and is wanted once
-pub record WantsWell (e : Errand) (lent : Option (List ℕ)) (before asked : ℕ) (w : Walk) : Type 0 where
+-- what a workspace wants is so, and is wanted once
+pub record WantsWell (e : CallContext) (lent : Option (List ℕ)) (before asked : ℕ) (w : Workspace) : Type 0 where
   pub wanted : Wanted e w lent asked w.want
   pub once : ClosesNext e before w ⊥
 
 -- at so many questions, or fewer, it stands where it may, and what it wants is so
-pub record EndsWell (e : Errand) (Stands : ℕ → Walk → Option (List ℕ) → State → Type 0) (after : List ℕ → Option (List ℕ)) (before asked : ℕ) (x : Turn) : Type 0 where
+pub record EndsWell (e : CallContext) (Stands : ℕ → Workspace → Option (List ℕ) → State → Type 0) (after : List ℕ → Option (List ℕ)) (before asked : ℕ) (x : StepResult) : Type 0 where
   pub number : ℕ
   pub most : number ≤ asked
-  pub state : Stands number x.walk (after x.words) x.state
+  pub state : Stands number x.workspace (after x.words) x.state
   pub wanting : ℕ
   pub wanting_most : wanting ≤ asked
-  pub wanted : Wanted e x.walk (after x.words) wanting x.walk.want
-  pub once : ClosesNext e before x.walk (IsAborted x.state)
+  pub wanted : Wanted e x.workspace (after x.words) wanting x.workspace.want
+  pub once : ClosesNext e before x.workspace (IsAborted x.state)
 
 -- where a traversal stands that was struck
-abbrev pub StruckStands : Errand → ℕ → Walk → Option (List ℕ) → State → Type 0
+abbrev pub StruckStands : CallContext → ℕ → Workspace → Option (List ℕ) → State → Type 0
 StruckStands e number w lent Went = StruckCase e w lent number
 StruckStands e number w lent Finished = (w.gate.done ≡ 11) × HasCopyOfSome e w number
 StruckStands e number w lent Refused = w.gate.done ≤ 1
 StruckStands e number w lent (Aborted abort) = ⊤
 
-pub raised : (e : Errand) (Stands : ℕ → Walk → Option (List ℕ) → State → Type 0) (after : List ℕ → Option (List ℕ)) (before asked more : ℕ) (x : Turn) → asked ≤ more →
+pub raised : (e : CallContext) (Stands : ℕ → Workspace → Option (List ℕ) → State → Type 0) (after : List ℕ → Option (List ℕ)) (before asked more : ℕ) (x : StepResult) → asked ≤ more →
     EndsWell e Stands after before asked x → EndsWell e Stands after before more x
 raised e Stands after before asked more x le h =
     let most : h.number ≤ asked = h.most in
     let wanting_most : h.wanting ≤ asked = h.wanting_most in
     record { number = h.number; most = omega (arith, le, most); state = h.state; wanting = h.wanting; wanting_most = omega (arith, le, wanting_most); wanted = h.wanted; once = h.once }
 
--- walks that are like each other want the same where a phase is closed
-closing_same : (phase : Phase) (w v : Walk) → IsLike w v → closing_want v phase ≡ closing_want w phase
+-- workspaces that are like each other want the same where a phase is closed
+closing_same : (phase : Phase) (w v : Workspace) → IsLike w v → closing_want v phase ≡ closing_want w phase
 closing_same Guard w v l = refl
 closing_same Take w v l = ap WantTake l.wanted
 closing_same First w v l = refl
@@ -141,31 +141,31 @@ closing_same Give w v l = refl
 closing_same Send w v l = ap (λ (q : PassState). send_want q.bytes.items) l.second
 closing_same Done w v l = refl
 
-pub once_like : (e : Errand) (before : ℕ) (w v : Walk) (E F : Type 0) → IsLike w v → v.gate.done ≡ w.gate.done → v.want ≡ w.want → (E → F) → ClosesNext e before w E → ClosesNext e before v F
+pub once_like : (e : CallContext) (before : ℕ) (w v : Workspace) (E F : Type 0) → IsLike w v → v.gate.done ≡ w.gate.done → v.want ≡ w.want → (E → F) → ClosesNext e before w E → ClosesNext e before v F
 once_like e before w v E F l gate want f (Stays at none) = Stays (gate ∙ at) (want ∙ none)
 once_like e before w v E F l gate want f (Closes phase is at wants) = Closes phase is (gate ∙ at) (want ∙ wants ∙ sym (closing_same phase w v l))
 once_like e before w v E F l gate want f (Lacks is at none lacks ended) = Lacks is (gate ∙ at) (want ∙ none) (subst (λ (n : ℕ). e.space.geometry.buckets ≤ n) (sym l.wanted) lacks) (f ended)
 
-pub nothing_wanted : (e : Errand) (lent : Option (List ℕ)) (asked : ℕ) (w : Walk) → w.want ≡ Nothing → Wanted e w lent asked w.want
+pub nothing_wanted : (e : CallContext) (lent : Option (List ℕ)) (asked : ℕ) (w : Workspace) → w.want ≡ Nothing → Wanted e w lent asked w.want
 nothing_wanted e lent asked w none = subst (λ n. Wanted e w lent asked n) (sym none) tt
 
-pub wants_nothing : (e : Errand) (lent : Option (List ℕ)) (before asked : ℕ) (w : Walk) → w.want ≡ Nothing → w.gate.done ≡ before → WantsWell e lent before asked w
+pub wants_nothing : (e : CallContext) (lent : Option (List ℕ)) (before asked : ℕ) (w : Workspace) → w.want ≡ Nothing → w.gate.done ≡ before → WantsWell e lent before asked w
 wants_nothing e lent before asked w none gate = record { wanted = nothing_wanted e lent asked w none; once = Stays gate none }
 
 -- at another place
-elsewhere : (w : Walk) (p : Place) → IsLike w (record w { place = p })
+elsewhere : (w : Workspace) (p : Place) → IsLike w (record w { place = p })
 elsewhere w p = record { wanted = refl; notes = refl; second = refl; wire = refl }
 
-wanted_elsewhere : (e : Errand) (lent : Option (List ℕ)) (asked : ℕ) (w : Walk) (p : Place) → Wanted e w lent asked w.want → Wanted e (record w { place = p }) lent asked w.want
+wanted_elsewhere : (e : CallContext) (lent : Option (List ℕ)) (asked : ℕ) (w : Workspace) (p : Place) → Wanted e w lent asked w.want → Wanted e (record w { place = p }) lent asked w.want
 wanted_elsewhere e lent asked w p h = wanted_like e w (record w { place = p }) (elsewhere w p) lent asked w.want h
 
-once_elsewhere : (e : Errand) (before : ℕ) (w : Walk) (p : Place) (E F : Type 0) → (E → F) → ClosesNext e before w E → ClosesNext e before (record w { place = p }) F
+once_elsewhere : (e : CallContext) (before : ℕ) (w : Workspace) (p : Place) (E F : Type 0) → (E → F) → ClosesNext e before w E → ClosesNext e before (record w { place = p }) F
 once_elsewhere e before w p E F f h = once_like e before w (record w { place = p }) E F (elsewhere w p) refl refl f h
 
--- a step that ends there, from a walk that wants well
-pub comes_well : (e : Errand) (Stands : ℕ → Walk → Option (List ℕ) → State → Type 0) (after : List ℕ → Option (List ℕ)) (before asked number wanting : ℕ) (w : Walk) (words : List ℕ) (p : Place) (state : State) →
+-- a step that ends there, from a workspace that wants well
+pub comes_well : (e : CallContext) (Stands : ℕ → Workspace → Option (List ℕ) → State → Type 0) (after : List ℕ → Option (List ℕ)) (before asked number wanting : ℕ) (w : Workspace) (words : List ℕ) (p : Place) (state : State) →
     number ≤ asked → wanting ≤ asked → Stands number (record w { place = p }) (after words) state → WantsWell e (after words) before wanting w →
-    EndsWell e Stands after before asked (turn (record w { place = p }) words state)
+    EndsWell e Stands after before asked (step_result (record w { place = p }) words state)
 comes_well e Stands after before asked number wanting w words p state most wanting_most stands wants = record {
   number = number;
   most = most;
@@ -177,7 +177,7 @@ comes_well e Stands after before asked number wanting w words p state most wanti
 }
 
 -- at a place that is the end, the step finishes where all phases are closed, or aborts; at each other one it goes on
-pub arrives_well : (e : Errand) (lent : Option (List ℕ)) (asked : ℕ) (w : Walk) (phase : Phase) (p : Place) (done : ℕ) → (is_end p ≡ false → StruckCase e w lent asked) →
+pub arrives_well : (e : CallContext) (lent : Option (List ℕ)) (asked : ℕ) (w : Workspace) (phase : Phase) (p : Place) (done : ℕ) → (is_end p ≡ false → StruckCase e w lent asked) →
     (is_end p ≡ true → done ≡ 11 → (w.gate.done ≡ 11) × HasCopyOfSome e w asked) → StruckStands e asked w lent (arrival phase p done)
 arrives_well e lent asked w phase p done went finished = by_end (is_end p) refl
   where
@@ -190,8 +190,8 @@ arrives_well e lent asked w phase p done went finished = by_end (is_end p) refl
     by_end false h = went h
 
 -- an act that ends well, and an honest answer to where it goes
-module _ (e : Errand) (after : List ℕ → Option (List ℕ)) (p : Phase) (same : (words : List ℕ) → after words ≡ lent_in p words) where
-  leads_well : (u : Walk) (words : List ℕ) (asked : ℕ) (to : Place) → LeadsWell e p u words asked to → StruckStands e asked (record u { place = to }) (after words) (arrival u.place.phase to u.gate.done)
+module _ (e : CallContext) (after : List ℕ → Option (List ℕ)) (p : Phase) (same : (words : List ℕ) → after words ≡ lent_in p words) where
+  leads_well : (u : Workspace) (words : List ℕ) (asked : ℕ) (to : Place) → LeadsWell e p u words asked to → StruckStands e asked (record u { place = to }) (after words) (arrival u.place.phase to u.gate.done)
   leads_well u words asked to (Onward gate stands) =
       arrives_well e (after words) asked (record u { place = to }) u.place.phase to u.gate.done
       (λ h. Right gate (subst (λ (lent : Option (List ℕ)). StruckIn e (record u { place = to }) lent asked to.phase) (sym (same words)) stands))
@@ -201,7 +201,7 @@ module _ (e : Errand) (after : List ℕ → Option (List ℕ)) (p : Phase) (same
       (λ h. let no : true ≡ false = subst (λ (r : Place). is_end r ≡ false) is h in let z : ⊥ = cc in absurd z)
       (λ h eleven. (gate, send_like e u (record u { place = to }) (elsewhere u to) asked sends))
 
-  ending_well : (u : Walk) (words : List ℕ) (asked : ℕ) (ending : Ending) → EndsRight e p u words asked ending → Wanted e u (after words) asked u.want →
+  ending_well : (u : Workspace) (words : List ℕ) (asked : ℕ) (ending : Ending) → EndsRight e p u words asked ending → Wanted e u (after words) asked u.want →
       ClosesNext e (phase_number p) u (ending ≡ Aborts (Range u.wanted)) → EndsWell e (StruckStands e) after (phase_number p) asked (honest (goes_from u words ending))
   ending_well u words asked (Leads to) h wanted once = record {
     number = asked;
@@ -234,11 +234,11 @@ module _ (e : Errand) (after : List ℕ → Option (List ℕ)) (p : Phase) (same
   }
 
   pub act_well : (asked : ℕ) (y : Acted) → ActsWell e p asked y → EndsWell e (StruckStands e) after (phase_number p) asked (honest (goes_on y))
-  act_well asked y h = ending_well y.walk y.words asked y.ending h.ends (subst (λ (lent : Option (List ℕ)). Wanted e y.walk lent asked y.walk.want) (sym (same y.words)) h.wants) h.once
+  act_well asked y h = ending_well y.workspace y.words asked y.ending h.ends (subst (λ (lent : Option (List ℕ)). Wanted e y.workspace lent asked y.workspace.want) (sym (same y.words)) h.wants) h.once
 
 -- What is known behind Guard.
 
-pub knows_fit : (e : Errand) (w : Walk) (p : Phase) → (p ≡ Guard → ⊥) → Knows e w p → PassesGuard e
+pub knows_fit : (e : CallContext) (w : Workspace) (p : Phase) → (p ≡ Guard → ⊥) → Knows e w p → PassesGuard e
 knows_fit e w Guard n k = absurd (n refl)
 knows_fit e w Take n k = k
 knows_fit e w First n k = k.fit
@@ -251,7 +251,7 @@ knows_fit e w Give n k = k.fit
 knows_fit e w Send n k = k.fit
 knows_fit e w Done n k = k.fit
 
-pub aimed_knows : (e : Errand) (w : Walk) (p : Phase) → IsAimed e w → Knows e w p
+pub aimed_knows : (e : CallContext) (w : Workspace) (p : Phase) → IsAimed e w → Knows e w p
 aimed_knows e w Guard a = tt
 aimed_knows e w Take a = a.fit
 aimed_knows e w First a = a
@@ -265,7 +265,7 @@ aimed_knows e w Send a = a
 aimed_knows e w Done a = a
 
 -- the gate of a clean traversal, and what it has sealed
-pub clean_gate : (e : Errand) (w : Walk) (lent : Option (List ℕ)) (steps asked : ℕ) (p : Phase) → CleanIn e w lent steps asked p → w.gate.done ≡ phase_number p
+pub clean_gate : (e : CallContext) (w : Workspace) (lent : Option (List ℕ)) (steps asked : ℕ) (p : Phase) → CleanIn e w lent steps asked p → w.gate.done ≡ phase_number p
 clean_gate e w lent steps asked Guard c = c.is.gate
 clean_gate e w lent steps asked Take c = c.is.gate
 clean_gate e w lent steps asked First c = c.is.gate
@@ -278,7 +278,7 @@ clean_gate e w lent steps asked Give c = c.is.gate
 clean_gate e w lent steps asked Send c = c.is.gate
 clean_gate e w lent steps asked Done c = c.is.gate
 
-pub clean_sealed : (e : Errand) (w : Walk) (lent : Option (List ℕ)) (steps asked : ℕ) (p : Phase) → CleanIn e w lent steps asked p → w.sealed ≡ e.sealed
+pub clean_sealed : (e : CallContext) (w : Workspace) (lent : Option (List ℕ)) (steps asked : ℕ) (p : Phase) → CleanIn e w lent steps asked p → w.sealed ≡ e.sealed
 clean_sealed e w lent steps asked Guard c = c.is.sealed
 clean_sealed e w lent steps asked Take c = c.is.sealed
 clean_sealed e w lent steps asked First c = c.is.sealed
@@ -293,7 +293,7 @@ clean_sealed e w lent steps asked Done c = c.is.sealed
 
 -- A clean traversal that a strike moves to any place.
 
-pub moves_well : (e : Errand) (w : Walk) (lent : Option (List ℕ)) (steps asked : ℕ) (p : Phase) → (p ≡ Guard → ⊥) →
+pub moves_well : (e : CallContext) (w : Workspace) (lent : Option (List ℕ)) (steps asked : ℕ) (p : Phase) → (p ≡ Guard → ⊥) →
     ((index : ℕ) → StruckIn e (record w { place = at p index }) lent asked p) → CleanIn e w lent steps asked p → Knows e w p →
     (phase : Phase) (to : Place) → StruckStands e asked (record w { place = to }) lent (arrival phase to w.gate.done)
 moves_well e w lent steps asked p behind moved clean knows phase to =
@@ -308,7 +308,7 @@ moves_well e w lent steps asked p behind moved clean knows phase to =
     by_phase (inr n) = Lost (λ same. n (sym same ∙ gate)) (λ guard. knows_fit e w p behind knows)
 
 -- behind the last phase it is lost at each place but the end
-pub moves_at_end : (e : Errand) (w : Walk) (lent : Option (List ℕ)) (asked : ℕ) → PassesGuard e → w.gate.done ≡ 11 → HasCopyOfSome e w asked →
+pub moves_at_end : (e : CallContext) (w : Workspace) (lent : Option (List ℕ)) (asked : ℕ) → PassesGuard e → w.gate.done ≡ 11 → HasCopyOfSome e w asked →
     (phase : Phase) (to : Place) → StruckStands e asked (record w { place = to }) lent (arrival phase to w.gate.done)
 moves_at_end e w lent asked fit gate sends phase to =
     arrives_well e lent asked (record w { place = to }) phase to w.gate.done
@@ -323,7 +323,7 @@ StaysIn phase Refuses = ⊥
 StaysIn phase (Aborts cause) = ⊤
 
 -- at a place where the gate is not right a traversal stays lost; in the last phase it aborts
-pub lost_well : (e : Errand) (after : List ℕ → Option (List ℕ)) (before asked : ℕ) (p : Phase) → (p ≡ Guard → PassesGuard e) → (u : Walk) (words : List ℕ) (ending : Ending) →
+pub lost_well : (e : CallContext) (after : List ℕ → Option (List ℕ)) (before asked : ℕ) (p : Phase) → (p ≡ Guard → PassesGuard e) → (u : Workspace) (words : List ℕ) (ending : Ending) →
     StaysIn p ending → (p ≡ Done → (to : Place) → ending ≡ Leads to → ⊥) → u.gate.done ≢ phase_number p → WantsWell e (after words) before asked u →
     EndsWell e (StruckStands e) after before asked (honest (goes_from u words ending))
 lost_well e after before asked p fit u words (Leads to) stays never gate wants =

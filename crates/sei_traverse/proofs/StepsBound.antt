@@ -1,4 +1,4 @@
--- With one strike at most, a traversal makes no more steps than its bound, whatever its walk and its table are.
+-- With one strike at most, a traversal makes no more steps than its bound, whatever its workspace and its table are.
 use Rattle.std.proofs.Common.{◌≡◌, ℕ, ◌+◌, ◌*◌, ◌-◌, ◌<◌, ◌≤◌, ◌⊎◌, inl, inr, Bool, true, false, List, [], ◌∷◌, length, Option, Some, None, refl, sym, ap, ◌∙◌, subst, arith}
 use Rattle.std.specs.Prelude.{⊤, slice_get, if◌then◌else◌, ◌==◌, nat_lt, min}
 use Rattle.std.specs.declared.result.Result.{Result}
@@ -32,9 +32,9 @@ use Rattle.sei_traverse.specs.declared.turned.State.{State}
 use Rattle.sei_traverse.specs.declared.turned.State.TheVariants.{Went, Finished, Refused, Aborted}
 use Rattle.sei_traverse.specs.declared.turned.Want.{Want}
 use Rattle.sei_traverse.specs.declared.turned.Want.TheVariants.{Nothing, Take as WantTake, Enter as WantEnter, Give as WantGive}
-use Rattle.sei_traverse.specs.declared.walk.Ending.{Ending}
-use Rattle.sei_traverse.specs.declared.walk.Ending.TheVariants.{Leads, Refuses, Aborts}
-use Rattle.sei_traverse.specs.declared.walk.Walk.{Walk}
+use Rattle.sei_traverse.specs.declared.workspace.Ending.{Ending}
+use Rattle.sei_traverse.specs.declared.workspace.Ending.TheVariants.{Leads, Refuses, Aborts}
+use Rattle.sei_traverse.specs.declared.workspace.Workspace.{Workspace}
 use Rattle.sei_traverse.specs.Acts.{Acted, acted, ends, at, closed_to, closing_then, closes}
 use Rattle.sei_traverse.specs.Bounds.{place_number, last_number, made_by, reached, most_steps, StepsWithin, StepsAfter}
 use Rattle.sei_traverse.specs.PassActs.{first_machine, second_machine, with_first, with_second, first_from, first_to, first_tree, second_from, second_to, second_tree}
@@ -42,8 +42,8 @@ use Rattle.sei_traverse.specs.Phases.{guard_call, store_wanted, take_wanted, und
 use Rattle.sei_traverse.specs.Given.{Given, setting_in}
 use Rattle.sei_traverse.specs.State.{TraversalState, IsTraversal, begun_traversal, one_more}
 use Rattle.sei_pass.specs.declared.given.Sealed.{Sealed}
-use Rattle.sei_traverse.specs.Step.{Turn, turn, act_in, act_tree, site_of, is_end, arrival, goes, goes_from, goes_on, once, unless_ended, twice, turn_as, turn_at, turn_tree, TimedTwice}
-use Rattle.sei_traverse.proofs.HonestTurn.{unwanting, clean_run}
+use Rattle.sei_traverse.specs.Step.{StepResult, step_result, act_in, act_tree, site_of, is_end, arrival, goes, goes_from, goes_on, once, unless_ended, twice, step_as, step_at, traversal_step, TimedTwice}
+use Rattle.sei_traverse.proofs.HonestStep.{unwanting, clean_run}
 
 -- what always holds of a piece of work behind another
 
@@ -59,35 +59,35 @@ always_any Q (Tree.Ask q k) f h = λ a. always_any Q (k a) f h
 -- an act comes further
 
 -- both logs fit into their rooms
-record Fits (k : PassSpace) (w : Walk) : Type 0 where
+record Fits (k : PassSpace) (w : Workspace) : Type 0 where
   first_log : length w.first_log.items ≤ k.log
   second_log : length w.second_log.items ≤ k.log
 
 -- where it leads to a place that is not the end, that lies behind n
-abbrev Onto : PassSpace → ℕ → Walk → Ending → Type 0
+abbrev Onto : PassSpace → ℕ → Workspace → Ending → Type 0
 Onto k n v (Leads to) = is_end to ≡ false → n < made_by v + place_number k to.phase to.index
 Onto k n v Refuses = ⊤
 Onto k n v (Aborts cause) = ⊤
 
-record Climbs (k : PassSpace) (w : Walk) (phase : Phase) (index : ℕ) (y : Acted) : Type 0 where
-  made : made_by w ≤ made_by y.walk
-  onto : Fits k w → Onto k (made_by w + place_number k phase index) y.walk y.ending
+record Climbs (k : PassSpace) (w : Workspace) (phase : Phase) (index : ℕ) (y : Acted) : Type 0 where
+  made : made_by w ≤ made_by y.workspace
+  onto : Fits k w → Onto k (made_by w + place_number k phase index) y.workspace y.ending
 
-module _ (k : PassSpace) (w : Walk) (phase : Phase) (index : ℕ) where
+module _ (k : PassSpace) (w : Workspace) (phase : Phase) (index : ℕ) where
   -- an act that ends without a place
-  refuses_up : (v : Walk) (words : List ℕ) → made_by w ≤ made_by v → Climbs k w phase index (acted v words Refuses)
+  refuses_up : (v : Workspace) (words : List ℕ) → made_by w ≤ made_by v → Climbs k w phase index (acted v words Refuses)
   refuses_up v words le = record { made = le; onto = λ f. tt }
 
-  aborts_up : (v : Walk) (words : List ℕ) (cause : AbortCause) → made_by w ≤ made_by v → Climbs k w phase index (acted v words (Aborts cause))
+  aborts_up : (v : Workspace) (words : List ℕ) (cause : AbortCause) → made_by w ≤ made_by v → Climbs k w phase index (acted v words (Aborts cause))
   aborts_up v words cause le = record { made = le; onto = λ f. tt }
 
   -- one that leads on
-  leads_up : (v : Walk) (words : List ℕ) (to : Place) → made_by w ≤ made_by v → (Fits k w → is_end to ≡ false → made_by w + place_number k phase index < made_by v + place_number k to.phase to.index) →
+  leads_up : (v : Workspace) (words : List ℕ) (to : Place) → made_by w ≤ made_by v → (Fits k w → is_end to ≡ false → made_by w + place_number k phase index < made_by v + place_number k to.phase to.index) →
       Climbs k w phase index (acted v words (Leads to))
   leads_up v words to le h = record { made = le; onto = h }
 
-  -- one that closes its phase, from a walk in which no fewer statements were made
-  closes_up : (p : Phase) (v : Walk) (words : List ℕ) (want : Want) (to : Place) → made_by w ≤ made_by v →
+  -- one that closes its phase, from a workspace in which no fewer statements were made
+  closes_up : (p : Phase) (v : Workspace) (words : List ℕ) (want : Want) (to : Place) → made_by w ≤ made_by v →
       (Fits k w → is_end to ≡ false → made_by w + place_number k phase index < made_by v + place_number k to.phase to.index) → Always (Climbs k w phase index) (closes p v words want to)
   closes_up p v words want to le h = λ yes. by_answer yes
     where
@@ -95,7 +95,7 @@ module _ (k : PassSpace) (w : Walk) (phase : Phase) (index : ℕ) where
       by_answer true = record { made = le; onto = h }
       by_answer false = record { made = le; onto = λ f. tt }
 
-same_made : (w : Walk) → made_by w ≤ made_by w
+same_made : (w : Workspace) → made_by w ≤ made_by w
 same_made w = omega arith
 
 -- where as many statements were made, a greater number of the place is enough
@@ -104,25 +104,25 @@ by_place n a b lt = omega (arith, lt)
 
 -- Guard and Take
 
-guard_asked : (k : PassSpace) (g : Given) (index : ℕ) (w : Walk) (words : List ℕ) (yes : Bool) → Always (Climbs k w Guard index) (if yes then closes Guard w words Nothing (at Take 0) else ends w words Refuses)
+guard_asked : (k : PassSpace) (g : Given) (index : ℕ) (w : Workspace) (words : List ℕ) (yes : Bool) → Always (Climbs k w Guard index) (if yes then closes Guard w words Nothing (at Take 0) else ends w words Refuses)
 guard_asked k g index w words true = closes_up k w Guard index Guard w words Nothing (at Take 0) (same_made w) (λ f onward. by_place (made_by w) 0 (1 + min 0 1) (omega arith))
 guard_asked k g index w words false = refuses_up k w Guard index w words (same_made w)
 
-guard_up : (k : PassSpace) (g : Given) (index : ℕ) (w : Walk) (words : List ℕ) (yes : Bool) → Always (Climbs k w Guard index) (if yes then guard_call g w words else ends w words Refuses)
+guard_up : (k : PassSpace) (g : Given) (index : ℕ) (w : Workspace) (words : List ℕ) (yes : Bool) → Always (Climbs k w Guard index) (if yes then guard_call g w words else ends w words Refuses)
 guard_up k g index w words true = λ yes. guard_asked k g index w words yes
 guard_up k g index w words false = refuses_up k w Guard index w words (same_made w)
 
-take_room : (k : PassSpace) (index : ℕ) (w v : Walk) (words : List ℕ) (there : Bool) → made_by w ≤ made_by v →
+take_room : (k : PassSpace) (index : ℕ) (w v : Workspace) (words : List ℕ) (there : Bool) → made_by w ≤ made_by v →
     Always (Climbs k w Take index) (if there then ends (record v { want = WantTake v.wanted }) words (Leads (at First 0)) else ends v words (Aborts (Range v.wanted)))
 take_room k index w v words true le = leads_up k w Take index (record v { want = WantTake v.wanted }) words (at First 0) le (λ f onward. omega (arith, le))
 take_room k index w v words false le = aborts_up k w Take index v words (Range v.wanted) le
 
-take_closed : (k : PassSpace) (g : Given) (index : ℕ) (w : Walk) (words : List ℕ) (yes : Bool) →
+take_closed : (k : PassSpace) (g : Given) (index : ℕ) (w : Workspace) (words : List ℕ) (yes : Bool) →
     Always (Climbs k w Take index) (closed_to w words (take_wanted g.space.geometry words) (yes, if yes then risen w.gate.done else w.gate.done))
 take_closed k g index w words true = take_room k index w (record w { gate = record { done = risen w.gate.done } }) words (nat_lt w.wanted g.space.geometry.buckets) (same_made w)
 take_closed k g index w words false = aborts_up k w Take index (record w { gate = record { done = w.gate.done } }) words (Gate w.gate.done) (same_made w)
 
-take_up : (k : PassSpace) (g : Given) (index : ℕ) (w : Walk) (words : List ℕ) (b : Bool) → (index == 0) ≡ b →
+take_up : (k : PassSpace) (g : Given) (index : ℕ) (w : Workspace) (words : List ℕ) (b : Bool) → (index == 0) ≡ b →
     Always (Climbs k w Take index) (if b then store_wanted g w words else closing_then Take w words (take_wanted g.space.geometry words))
 take_up k g index w words true e = λ b wanted. leads_up k w Take index (record w { wanted = wanted }) words (at Take 1) (same_made w) (λ f onward. omega (arith, eqb-true index 0 e))
 take_up k g index w words false e = λ yes. take_closed k g index w words yes
@@ -138,24 +138,24 @@ step_up s i m = by_statement s i m (Always (CountsOn m)) (λ cause. record { mad
     (λ st e b. always_map (λ (x : After). Keeps (parsed_words s.parsed) (one_made m) x.machine) (CountsOn m) (statement_tree s i (one_made m) st)
     (λ x k. record { made = omega (arith, k.made); going = λ go. k.made }) (keeps s i (one_made m) st))
 
-first_onward : (k : PassSpace) (index : ℕ) (w v : Walk) (words : List ℕ) (o : Outcome) → made_by w ≤ made_by v → (IsGoing o → made_by v ≡ made_by w + 1) → Always (Climbs k w First index) (first_from v words o)
+first_onward : (k : PassSpace) (index : ℕ) (w v : Workspace) (words : List ℕ) (o : Outcome) → made_by w ≤ made_by v → (IsGoing o → made_by v ≡ made_by w + 1) → Always (Climbs k w First index) (first_from v words o)
 first_onward k index w v words (Next i) le going = leads_up k w First index v words (at First i) le (λ f onward. omega (arith, going tt))
 first_onward k index w v words Halted le going = closes_up k w First index First v words Nothing (at Restore 0) le (λ f onward. omega (arith, going tt))
 first_onward k index w v words (Bad cause) le going = aborts_up k w First index v words cause le
 
-first_up : (k : PassSpace) (g : Given) (now index : ℕ) (w : Walk) (words : List ℕ) → Always (Climbs k w First index) (first_tree g now index w words)
+first_up : (k : PassSpace) (g : Given) (now index : ℕ) (w : Workspace) (words : List ℕ) → Always (Climbs k w First index) (first_tree g now index w words)
 first_up k g now index w words =
     let s : Setting = setting_in g Making w.sealed now in
     always_bound (CountsOn (first_machine w words)) (Climbs k w First index) (step_tree s index (first_machine w words)) (first_to w)
     (λ x h. first_onward k index w (with_first w x.machine) x.machine.words x.outcome (omega (arith, h.made)) (λ go. let one = h.going go in omega (arith, one)))
     (step_up s index (first_machine w words))
 
-second_onward : (k : PassSpace) (index : ℕ) (w v : Walk) (words : List ℕ) (o : Outcome) → made_by w ≤ made_by v → (IsGoing o → made_by v ≡ made_by w + 1) → Always (Climbs k w Second index) (second_from v words o)
+second_onward : (k : PassSpace) (index : ℕ) (w v : Workspace) (words : List ℕ) (o : Outcome) → made_by w ≤ made_by v → (IsGoing o → made_by v ≡ made_by w + 1) → Always (Climbs k w Second index) (second_from v words o)
 second_onward k index w v words (Next i) le going = leads_up k w Second index v words (at Second i) le (λ f onward. omega (arith, going tt))
 second_onward k index w v words Halted le going = closes_up k w Second index Second v words Nothing (at Compare 0) le (λ f onward. omega (arith, going tt))
 second_onward k index w v words (Bad cause) le going = aborts_up k w Second index v words cause le
 
-second_up : (k : PassSpace) (g : Given) (now index : ℕ) (w : Walk) (words : List ℕ) → Always (Climbs k w Second index) (second_tree g now index w words)
+second_up : (k : PassSpace) (g : Given) (now index : ℕ) (w : Workspace) (words : List ℕ) → Always (Climbs k w Second index) (second_tree g now index w words)
 second_up k g now index w words =
     let s : Setting = setting_in g Reading w.sealed now in
     always_bound (CountsOn (second_machine w words)) (Climbs k w Second index) (step_tree s index (second_machine w words)) (second_to w)
@@ -164,26 +164,26 @@ second_up k g now index w words =
 
 -- Restore and Compare
 
-undone_up : (k : PassSpace) (index : ℕ) (w : Walk) (words : List ℕ) (cause : Option AbortCause) → index < length w.first_log.items → Always (Climbs k w Restore index) (undone_as w words index cause)
+undone_up : (k : PassSpace) (index : ℕ) (w : Workspace) (words : List ℕ) (cause : Option AbortCause) → index < length w.first_log.items → Always (Climbs k w Restore index) (undone_as w words index cause)
 undone_up k index w words None lt = leads_up k w Restore index w words (at Restore (index + 1)) (same_made w) (λ f onward. omega (arith, lt, f.first_log))
 undone_up k index w words (Some cause) lt = aborts_up k w Restore index w words cause (same_made w)
 
-restore_up : (k : PassSpace) (index : ℕ) (w : Walk) (words : List ℕ) (b : Bool) → nat_lt index (length w.first_log.items) ≡ b →
+restore_up : (k : PassSpace) (index : ℕ) (w : Workspace) (words : List ℕ) (b : Bool) → nat_lt index (length w.first_log.items) ≡ b →
     Always (Climbs k w Restore index) (if b then bound (undo_at words (slice_get w.first_log.items (length w.first_log.items - 1 - index))) (undone_to w index) else closes Restore w words Nothing (at Second 0))
 restore_up k index w words true e =
     always_any (Climbs k w Restore index) (undo_at words (slice_get w.first_log.items (length w.first_log.items - 1 - index))) (undone_to w index)
     (λ u. undone_up k index w u.words u.cause (ltb-true index (length w.first_log.items) e))
 restore_up k index w words false e = closes_up k w Restore index Restore w words Nothing (at Second 0) (same_made w) (λ f onward. omega arith)
 
-entries_up : (k : PassSpace) (index : ℕ) (w : Walk) (words : List ℕ) (same : Bool) → index < compared w → Always (Climbs k w Compare index) (entries_to w words index same)
+entries_up : (k : PassSpace) (index : ℕ) (w : Workspace) (words : List ℕ) (same : Bool) → index < compared w → Always (Climbs k w Compare index) (entries_to w words index same)
 entries_up k index w words true lt = leads_up k w Compare index w words (at Compare (index + 1)) (same_made w) (λ f onward. omega (arith, lt, f.first_log, f.second_log))
 entries_up k index w words false lt = aborts_up k w Compare index w words (Differs index) (same_made w)
 
-outputs_up : (k : PassSpace) (index : ℕ) (w : Walk) (words : List ℕ) (same : Bool) → Always (Climbs k w Compare index) (outputs_to w words same)
+outputs_up : (k : PassSpace) (index : ℕ) (w : Workspace) (words : List ℕ) (same : Bool) → Always (Climbs k w Compare index) (outputs_to w words same)
 outputs_up k index w words true = closes_up k w Compare index Compare w words Nothing (at Verify 0) (same_made w) (λ f onward. omega arith)
 outputs_up k index w words false = aborts_up k w Compare index w words Replies (same_made w)
 
-compare_up : (k : PassSpace) (index : ℕ) (w : Walk) (words : List ℕ) (b : Bool) → nat_lt index (compared w) ≡ b →
+compare_up : (k : PassSpace) (index : ℕ) (w : Workspace) (words : List ℕ) (b : Bool) → nat_lt index (compared w) ≡ b →
     Always (Climbs k w Compare index) (if b then bound (entry_tree w.first_log.items w.second_log.items index) (entries_to w words index)
     else bound (codes_tree w.first.code w.first.bytes.items w.second.code w.second.bytes.items) (outputs_to w words))
 compare_up k index w words true e =
@@ -193,37 +193,37 @@ compare_up k index w words false e =
 
 -- Verify
 
-word_same : (k : PassSpace) (index : ℕ) (w : Walk) (words : List ℕ) (same : Bool) → index < length w.second_log.items →
+word_same : (k : PassSpace) (index : ℕ) (w : Workspace) (words : List ℕ) (same : Bool) → index < length w.second_log.items →
     Always (Climbs k w Verify index) (if same then ends w words (Leads (at Verify (index + 1))) else ends w words (Aborts (Differs index)))
 word_same k index w words true lt = leads_up k w Verify index w words (at Verify (index + 1)) (same_made w) (λ f onward. omega (arith, lt, f.second_log))
 word_same k index w words false lt = aborts_up k w Verify index w words (Differs index) (same_made w)
 
-word_up : (k : PassSpace) (index : ℕ) (w : Walk) (words : List ℕ) (r : Result Bool AbortCause) → index < length w.second_log.items → Always (Climbs k w Verify index) (word_to w words index r)
+word_up : (k : PassSpace) (index : ℕ) (w : Workspace) (words : List ℕ) (r : Result Bool AbortCause) → index < length w.second_log.items → Always (Climbs k w Verify index) (word_to w words index r)
 word_up k index w words (Ok same) lt = word_same k index w words same lt
 word_up k index w words (Err cause) lt = aborts_up k w Verify index w words cause (same_made w)
 
-copy_up : (k : PassSpace) (index : ℕ) (w : Walk) (words bytes : List ℕ) → index ≡ length w.second_log.items → Always (Climbs k w Verify index) (copy_bytes w words index bytes)
+copy_up : (k : PassSpace) (index : ℕ) (w : Workspace) (words bytes : List ℕ) → index ≡ length w.second_log.items → Always (Climbs k w Verify index) (copy_bytes w words index bytes)
 copy_up k index w words [] e = leads_up k w Verify index _ words (at Verify (index + 1)) (same_made w) (λ f onward. omega (arith, e, f.second_log))
 copy_up k index w words (byte ∷ bytes) e = λ b. leads_up k w Verify index _ words (at Verify (index + 1)) (same_made w) (λ f onward. omega (arith, e, f.second_log))
 
-wire_up : (k : PassSpace) (index : ℕ) (w : Walk) (words : List ℕ) (same : Bool) → Always (Climbs k w Verify index) (wire_to w words same)
+wire_up : (k : PassSpace) (index : ℕ) (w : Workspace) (words : List ℕ) (same : Bool) → Always (Climbs k w Verify index) (wire_to w words same)
 wire_up k index w words true = closes_up k w Verify index Verify w words Nothing (at Enter 0) (same_made w) (λ f onward. omega arith)
 wire_up k index w words false = aborts_up k w Verify index w words Wires (same_made w)
 
-behind_words : (k : PassSpace) (index : ℕ) (w : Walk) (words : List ℕ) (b : Bool) → (index == length w.second_log.items) ≡ b →
+behind_words : (k : PassSpace) (index : ℕ) (w : Workspace) (words : List ℕ) (b : Bool) → (index == length w.second_log.items) ≡ b →
     Always (Climbs k w Verify index) (if b then copy_bytes w words index (reply_of w) else bound (wire_tree w.sealed.answer w.first.code w.first.bytes.items w.wire.items) (wire_to w words))
 behind_words k index w words true e = copy_up k index w words (reply_of w) (eqb-true index (length w.second_log.items) e)
 behind_words k index w words false e =
     always_any (Climbs k w Verify index) (wire_tree w.sealed.answer w.first.code w.first.bytes.items w.wire.items) (wire_to w words) (λ same. wire_up k index w words same)
 
-verify_up : (k : PassSpace) (index : ℕ) (w : Walk) (words : List ℕ) (b : Bool) → nat_lt index (length w.second_log.items) ≡ b →
+verify_up : (k : PassSpace) (index : ℕ) (w : Workspace) (words : List ℕ) (b : Bool) → nat_lt index (length w.second_log.items) ≡ b →
     Always (Climbs k w Verify index) (if b then bound (word_at words (slice_get w.second_log.items index)) (word_to w words index) else verify_copy index w words)
 verify_up k index w words true e =
     always_any (Climbs k w Verify index) (word_at words (slice_get w.second_log.items index)) (word_to w words index) (λ r. word_up k index w words r (ltb-true index (length w.second_log.items) e))
 verify_up k index w words false e = behind_words k index w words (index == length w.second_log.items) refl
 
 -- whatever is answered, an act that leads on comes further
-act_up : (k : PassSpace) (g : Given) (now : ℕ) (phase : Phase) (index : ℕ) (w : Walk) (words : List ℕ) → Always (Climbs k w phase index) (act_in g now phase index w words)
+act_up : (k : PassSpace) (g : Given) (now : ℕ) (phase : Phase) (index : ℕ) (w : Workspace) (words : List ℕ) → Always (Climbs k w phase index) (act_in g now phase index w words)
 act_up k g now Guard index w words = λ yes. guard_up k g index w words yes
 act_up k g now Take index w words = take_up k g index w words (index == 0) refl
 act_up k g now First index w words = first_up k g now index w words
@@ -239,34 +239,34 @@ act_up k g now Done index w words = closes_up k w Done index Done w words Nothin
 -- a whole step
 
 -- whatever is answered, no statement is unmade
-abbrev Remade : Walk → Turn → Type 0
-Remade w x = made_by w ≤ made_by x.walk
+abbrev Remade : Workspace → StepResult → Type 0
+Remade w x = made_by w ≤ made_by x.workspace
 
-ended_made : (w v : Walk) (words : List ℕ) (on : Place → Tree Turn) (e : Ending) → made_by w ≤ made_by v → ((to : Place) → Always (Remade w) (on to)) → Always (Remade w) (unless_ended on v words e)
+ended_made : (w v : Workspace) (words : List ℕ) (on : Place → Tree StepResult) (e : Ending) → made_by w ≤ made_by v → ((to : Place) → Always (Remade w) (on to)) → Always (Remade w) (unless_ended on v words e)
 ended_made w v words on (Leads to) le h = h to
 ended_made w v words on Refuses le h = le
 ended_made w v words on (Aborts cause) le h = le
 
-once_made : (g : Given) (now : ℕ) (w v : Walk) (words : List ℕ) → made_by w ≤ made_by v → Always (Remade w) (once g now v words)
+once_made : (g : Given) (now : ℕ) (w v : Workspace) (words : List ℕ) → made_by w ≤ made_by v → Always (Remade w) (once g now v words)
 once_made g now w v words le =
     always_bound (Climbs g.space v v.place.phase v.place.index) (Remade w) (act_tree g now v words) goes_on
-    (λ y h. let further : made_by w ≤ made_by y.walk = omega (arith, le, h.made) in ended_made w y.walk y.words (goes y.walk y.words) y.ending further (λ to p. further))
+    (λ y h. let further : made_by w ≤ made_by y.workspace = omega (arith, le, h.made) in ended_made w y.workspace y.words (goes y.workspace y.words) y.ending further (λ to p. further))
     (act_up g.space g now v.place.phase v.place.index v words)
 
-twice_made : (g : Given) (now later : ℕ) (w : Walk) (words : List ℕ) → Always (Remade w) (bound (act_tree g now w words) (twice g later))
+twice_made : (g : Given) (now later : ℕ) (w : Workspace) (words : List ℕ) → Always (Remade w) (bound (act_tree g now w words) (twice g later))
 twice_made g now later w words =
     always_bound (Climbs g.space w w.place.phase w.place.index) (Remade w) (act_tree g now w words) (twice g later)
-    (λ y h. ended_made w y.walk y.words (λ to. once g later y.walk y.words) y.ending h.made (λ to. once_made g later w y.walk y.words h.made))
+    (λ y h. ended_made w y.workspace y.words (λ to. once g later y.workspace y.words) y.ending h.made (λ to. once_made g later w y.workspace y.words h.made))
     (act_up g.space g now w.place.phase w.place.index w words)
 
-times_made : (g : Given) (now later : ℕ) (w : Walk) (words : List ℕ) (act : Act) (times : Times) → Always (Remade w) (turn_as g now later w words act times)
+times_made : (g : Given) (now later : ℕ) (w : Workspace) (words : List ℕ) (act : Act) (times : Times) → Always (Remade w) (step_as g now later w words act times)
 times_made g now later w words act Once = once_made g now w w words (same_made w)
 times_made g now later w words act Skip = λ p. same_made w
 times_made g now later w words act Twice = twice_made g now later w words
 
-turn_made : (g : Given) (now later : ℕ) (w : Walk) (words : List ℕ) (o : Option Act) → Always (Remade w) (turn_at g now later w words o)
-turn_made g now later w words None = same_made w
-turn_made g now later w words (Some act) = λ times. times_made g now later w words act times
+step_result_made : (g : Given) (now later : ℕ) (w : Workspace) (words : List ℕ) (o : Option Act) → Always (Remade w) (step_at g now later w words o)
+step_result_made g now later w words None = same_made w
+step_result_made g now later w words (Some act) = λ times. times_made g now later w words act times
 
 -- a step that goes on has not come to the end
 arrived : (phase : Phase) (to : Place) (done : ℕ) (b : Bool) → is_end to ≡ b → arrival phase to done ≡ Went → is_end to ≡ false
@@ -277,22 +277,22 @@ arrived phase to done true e h = absurd (by_done (done == 11) (sym (ap (λ (b : 
     by_done true f = cc
     by_done false f = cc
 
-ending_up : (k : PassSpace) (n : ℕ) (v : Walk) (words : List ℕ) (e : Ending) → Onto k n v e → (honest (goes_from v words e)).state ≡ Went → n < reached k (honest (goes_from v words e)).walk
+ending_up : (k : PassSpace) (n : ℕ) (v : Workspace) (words : List ℕ) (e : Ending) → Onto k n v e → (honest (goes_from v words e)).state ≡ Went → n < reached k (honest (goes_from v words e)).workspace
 ending_up k n v words (Leads to) onto h = onto (arrived v.place.phase to v.gate.done (is_end to) refl h)
 ending_up k n v words Refuses onto h = absurd cc
 ending_up k n v words (Aborts cause) onto h = absurd cc
 
 -- an honest step that goes on comes further
-site_up : (k : PassSpace) (g : Given) (now later : ℕ) (w : Walk) (words : List ℕ) (o : Option Act) → Fits k w →
-    (honest (turn_at g now later w words o)).state ≡ Went → reached k w < reached k (honest (turn_at g now later w words o)).walk
+site_up : (k : PassSpace) (g : Given) (now later : ℕ) (w : Workspace) (words : List ℕ) (o : Option Act) → Fits k w →
+    (honest (step_at g now later w words o)).state ≡ Went → reached k w < reached k (honest (step_at g now later w words o)).workspace
 site_up k g now later w words None fits h = absurd cc
 site_up k g now later w words (Some act) fits h =
     let y : Acted = honest (act_tree g now w words) in
     let climbs : Climbs k w w.place.phase w.place.index y =
     always_honest (Climbs k w w.place.phase w.place.index) (act_tree g now w words) (act_up k g now w.place.phase w.place.index w words) in
-    let same : honest (once g now w words) ≡ honest (goes_from y.walk y.words y.ending) = honest_bound (act_tree g now w words) goes_on in
-    let went : (honest (goes_from y.walk y.words y.ending)).state ≡ Went = sym (ap (λ (x : Turn). x.state) same) ∙ h in
-    subst (λ (x : Turn). reached k w < reached k x.walk) (sym same) (ending_up k (reached k w) y.walk y.words y.ending (climbs.onto fits) went)
+    let same : honest (once g now w words) ≡ honest (goes_from y.workspace y.words y.ending) = honest_bound (act_tree g now w words) goes_on in
+    let went : (honest (goes_from y.workspace y.words y.ending)).state ≡ Went = sym (ap (λ (x : StepResult). x.state) same) ∙ h in
+    subst (λ (x : StepResult). reached k w < reached k x.workspace) (sym same) (ending_up k (reached k w) y.workspace y.words y.ending (climbs.onto fits) went)
 
 -- no place has a greater number than the last
 number_within : (k : PassSpace) (phase : Phase) (index : ℕ) → place_number k phase index ≤ last_number k
@@ -311,11 +311,11 @@ number_within k Done index = omega arith
 -- the bound
 
 -- the most that a traversal reaches
-reached_within : (t : TraversalState) → IsTraversal t → reached t.space t.walk ≤ 2 * t.space.budget + last_number t.space
+reached_within : (t : TraversalState) → IsTraversal t → reached t.space t.workspace ≤ 2 * t.space.budget + last_number t.space
 reached_within t is =
-    let first = subst (λ (k : PassSpace). t.walk.first.made ≤ k.budget) is.space is.walk.first.made in
-    let second = subst (λ (k : PassSpace). t.walk.second.made ≤ k.budget) (is.walk.same ∙ is.space) is.walk.second.made in
-    omega (arith, first, second, number_within t.space t.walk.place.phase t.walk.place.index)
+    let first = subst (λ (k : PassSpace). t.workspace.first.made ≤ k.budget) is.space is.workspace.first.made in
+    let second = subst (λ (k : PassSpace). t.workspace.second.made ≤ k.budget) (is.workspace.same ∙ is.space) is.workspace.second.made in
+    omega (arith, first, second, number_within t.space t.workspace.place.phase t.workspace.place.index)
 
 -- so many steps, and one more at the end
 bounded : (t : TraversalState) (begin now : Counts) → IsTraversal t → StepsWithin t begin now → now.struck ≤ begin.struck + 1 → t.steps + 1 ≤ most_steps t.space
@@ -334,37 +334,37 @@ steps_bounded t begin now is s le = omega (arith, bounded t begin now is s le)
 pub begun_within : (g : PassSpace) (sealed : Sealed) (c : Counts) → StepsWithin (begun_traversal g sealed) c c
 begun_within g sealed c = record { later = omega arith; unstruck = λ e. omega arith; struck = λ e. absurd (omega (arith, e)) }
 
-fits_of : (t : TraversalState) → IsTraversal t → Fits t.space t.walk
+fits_of : (t : TraversalState) → IsTraversal t → Fits t.space t.workspace
 fits_of t is = record {
-  first_log = subst (λ (k : PassSpace). length t.walk.first_log.items ≤ k.log) is.space is.walk.first_log;
-  second_log = subst (λ (k : PassSpace). length t.walk.second_log.items ≤ k.log) is.space is.walk.second_log;
+  first_log = subst (λ (k : PassSpace). length t.workspace.first_log.items ≤ k.log) is.space is.workspace.first_log;
+  second_log = subst (λ (k : PassSpace). length t.workspace.second_log.items ≤ k.log) is.space is.workspace.second_log;
 }
 
 module _ (g : Given) (words left : List ℕ) (state : State) (now later : ℕ) (begin c d : Counts) (old new : TraversalState) (is : IsTraversal old) (space : new.space ≡ old.space)
-    (steps : new.steps ≡ one_more old.steps) (run : Runs any_core (turn_tree g now later old.walk words) c d (turn new.walk left state)) (within : StepsWithin old begin c) where
-  abbrev tree : Tree Turn
-  tree = turn_tree g now later old.walk words
+    (steps : new.steps ≡ one_more old.steps) (run : Runs any_core (traversal_step g now later old.workspace words) c d (step_result new.workspace left state)) (within : StepsWithin old begin c) where
+  abbrev tree : Tree StepResult
+  tree = traversal_step g now later old.workspace words
 
   one_step : new.steps ≤ old.steps + 1
   one_step = omega (arith, steps)
 
   no_less : c.struck ≤ d.struck
-  no_less = never_falls tree c d (turn new.walk left state) run
+  no_less = never_falls tree c d (step_result new.workspace left state) run
 
   -- without a strike it comes further
-  further : d.struck ≡ c.struck → state ≡ Went → reached old.space old.walk < reached old.space new.walk
+  further : d.struck ≡ c.struck → state ≡ Went → reached old.space old.workspace < reached old.space new.workspace
   further none went =
-      let same : turn new.walk left state ≡ honest tree = (clean_run g now later old.walk words c d (turn new.walk left state) run none).0 in
-      let on : (honest tree).state ≡ Went = sym (ap (λ (x : Turn). x.state) same) ∙ went in
-      subst (λ (x : Turn). reached old.space old.walk < reached old.space x.walk) (sym same)
-      (site_up old.space g now later (unwanting old.walk) words (site_of g.behavior (unwanting old.walk)) (record { first_log = (fits_of old is).first_log; second_log = (fits_of old is).second_log }) on)
+      let same : step_result new.workspace left state ≡ honest tree = (clean_run g now later old.workspace words c d (step_result new.workspace left state) run none).0 in
+      let on : (honest tree).state ≡ Went = sym (ap (λ (x : StepResult). x.state) same) ∙ went in
+      subst (λ (x : StepResult). reached old.space old.workspace < reached old.space x.workspace) (sym same)
+      (site_up old.space g now later (unwanting old.workspace) words (site_of g.behavior (unwanting old.workspace)) (record { first_log = (fits_of old is).first_log; second_log = (fits_of old is).second_log }) on)
 
   -- and with one not much less far
-  not_much_less : reached old.space old.walk ≤ reached old.space new.walk + last_number old.space
+  not_much_less : reached old.space old.workspace ≤ reached old.space new.workspace + last_number old.space
   not_much_less =
-      let made : made_by old.walk ≤ made_by new.walk =
-      always any_core (Remade (unwanting old.walk)) tree c d (turn new.walk left state) (turn_made g now later (unwanting old.walk) words (site_of g.behavior (unwanting old.walk))) run in
-      omega (arith, made, number_within old.space old.walk.place.phase old.walk.place.index)
+      let made : made_by old.workspace ≤ made_by new.workspace =
+      always any_core (Remade (unwanting old.workspace)) tree c d (step_result new.workspace left state) (step_result_made g now later (unwanting old.workspace) words (site_of g.behavior (unwanting old.workspace))) run in
+      omega (arith, made, number_within old.space old.workspace.place.phase old.workspace.place.index)
 
   -- a step that goes on keeps the bound
   went_on : state ≡ Went → StepsWithin new begin d
@@ -373,13 +373,13 @@ module _ (g : Given) (words left : List ℕ) (state : State) (now later : ℕ) (
       Within : PassSpace → Type 0
       Within k = StepsWithin (record new { space = k }) begin d
 
-      struck_before : d.struck ≡ begin.struck + 1 → c.struck ≡ begin.struck + 1 → new.steps ≤ reached old.space new.walk + last_number old.space + 1
+      struck_before : d.struck ≡ begin.struck + 1 → c.struck ≡ begin.struck + 1 → new.steps ≤ reached old.space new.workspace + last_number old.space + 1
       struck_before e f = let on = further (e ∙ sym f) went in omega (arith, one_step, within.struck f, on)
 
-      struck_here : c.struck ≡ begin.struck → new.steps ≤ reached old.space new.walk + last_number old.space + 1
+      struck_here : c.struck ≡ begin.struck → new.steps ≤ reached old.space new.workspace + last_number old.space + 1
       struck_here f = omega (arith, one_step, within.unstruck f, not_much_less)
 
-      by_counts : d.struck ≡ begin.struck + 1 → (c.struck ≡ begin.struck) ⊎ (c.struck ≡ begin.struck → ⊥) → new.steps ≤ reached old.space new.walk + last_number old.space + 1
+      by_counts : d.struck ≡ begin.struck + 1 → (c.struck ≡ begin.struck) ⊎ (c.struck ≡ begin.struck → ⊥) → new.steps ≤ reached old.space new.workspace + last_number old.space + 1
       by_counts e (inl f) = struck_here f
       by_counts e (inr other) = struck_before e (omega (arith, within.later, no_less, e, other))
 
@@ -413,10 +413,10 @@ module _ (g : Given) (words left : List ℕ) (state : State) (now later : ℕ) (
 pub steps_after_turned : {S : Type 0} (gives : S → (q : Question) → Answer q → S → Type 0) (counts : S → Counts) →
     ((s : S) (q : Question) (a : Answer q) (t : S) → gives s q a t → Answered (a ≡ honestly_to q) (counts s) (counts t)) →
     (told : Option ℕ) (g : Given) (words left : List ℕ) (begin : Counts) (old new : TraversalState) (state : State) (s t : S) →
-    TimedTwice gives told (λ now later. turn_tree g now later old.walk words) s t (turn new.walk left state) →
+    TimedTwice gives told (λ now later. traversal_step g now later old.workspace words) s t (step_result new.workspace left state) →
     IsTraversal old → new.space ≡ old.space → new.steps ≡ one_more old.steps → StepsWithin old begin (counts s) → StepsAfter new begin (counts t) state
 steps_after_turned gives counts law told g words left begin old new state s t turned is space steps within =
-    let run = counted_runs gives counts law (turn_tree g turned.now turned.later old.walk words) s t (turn new.walk left state) turned.runs in
+    let run = counted_runs gives counts law (traversal_step g turned.now turned.later old.workspace words) s t (step_result new.workspace left state) turned.runs in
     steps_after g words left state turned.now turned.later begin (counts s) (counts t) old new is space steps run within
 
 -- nor do more strikes fall than the room of the core allows

@@ -21,12 +21,12 @@ use Rattle.sei_stmt.specs.Machine.Outcome.{Halted}
 use Rattle.sei_stmt.proofs.Public.{Keeps, keeps}
 use Rattle.sei_pass.specs.State.{PassState}
 use Rattle.sei_traverse.specs.declared.turned.Want.TheVariants.{Nothing}
-use Rattle.sei_traverse.specs.declared.walk.Ending.TheVariants.{Leads, Aborts}
-use Rattle.sei_traverse.specs.declared.walk.Walk.{Walk}
+use Rattle.sei_traverse.specs.declared.workspace.Ending.TheVariants.{Leads, Aborts}
+use Rattle.sei_traverse.specs.declared.workspace.Workspace.{Workspace}
 use Rattle.sei_traverse.specs.Alike.{AlikeAt, AlikeLogs}
 use Rattle.sei_traverse.proofs.AlikeLaws.{alike_itself, applied_alike, alike_stands, alike_back}
 use Rattle.sei_traverse.specs.Acts.{Acted, acted, at, closes}
-use Rattle.sei_traverse.specs.Errand.{Errand}
+use Rattle.sei_traverse.specs.CallContext.{CallContext}
 use Rattle.sei_traverse.specs.Phases.{compared, compare_tree, entries_to, outputs_to, reply_of}
 use Rattle.sei_traverse.specs.Struck.{IsAimed, IsHonestResult, WasHonest, WasMisread, On, SecondStruck, ComesOn, setting_on, start_on, CompareStruck, WordsStruck}
 use Rattle.sei_traverse.specs.Struck.SecondStruck.{Good, Misread, Damaged, Struck}
@@ -36,15 +36,15 @@ use Rattle.sei_traverse.specs.Trusted.{IsTrusted}
 use Rattle.sei_traverse.specs.Unstruck.{InBoth, InCompare}
 use Rattle.sei_traverse.proofs.CleanAnswers.{answers_whole, answers_clean}
 use Rattle.sei_traverse.proofs.GoodAnswers.{good_answers}
-use Rattle.sei_traverse.proofs.Closes.{closed, closes_in_turn}
+use Rattle.sei_traverse.proofs.Closes.{closed, closes_in_step}
 use Rattle.sei_traverse.proofs.PhaseLaws.{LeadsWell, ActsWell, PhaseLaws}
 use Rattle.sei_traverse.proofs.PhaseLaws.LeadsWell.{Onward}
 use Rattle.sei_traverse.proofs.StruckRestore.{acts_well, closed_acts, closes_well, IsLike, moved_like, closed_like, aimed_like, honest_like, misread_like, honest_distinct}
 
--- Walks with the same passes.
+-- Workspaces with the same passes.
 
 -- an answer stays one where more questions were asked
-answers_like : (e : Errand) (w v : Walk) (words : List ℕ) (asked more : ℕ) → IsLike w v → v.second ≡ w.second → asked ≤ more → IsHonestResult e w words asked → IsHonestResult e v words more
+answers_like : (e : CallContext) (w v : Workspace) (words : List ℕ) (asked more : ℕ) → IsLike w v → v.second ≡ w.second → asked ≤ more → IsHonestResult e w words asked → IsHonestResult e v words more
 answers_like e w v words asked more like second le a = record {
   aimed = aimed_like e w v like a.aimed;
   time = a.time;
@@ -61,13 +61,13 @@ answers_like e w v words asked more like second le a = record {
 }
 
 -- both passes left the same bytes where they came to one end
-outputs_both : (e : Errand) (w : Walk) (lent : Option (List ℕ)) (time made : ℕ) (end : Machine) (asked : ℕ) → InBoth e w lent time made end asked →
+outputs_both : (e : CallContext) (w : Workspace) (lent : Option (List ℕ)) (time made : ℕ) (end : Machine) (asked : ℕ) → InBoth e w lent time made end asked →
     w.first.bytes.items ≡ reply_of w
 outputs_both e w lent time made end asked b =
     ap (λ (p : PassState). p.bytes.items) b.first.first ∙ sym (ap (λ (p : PassState). p.bytes.items) b.second.second)
 
--- what is so of the second pass behind the place of the walk
-second_at : (e : Errand) (w : Walk) (to : Place) (words : List ℕ) (o : Outcome) (asked more : ℕ) → asked ≤ more → SecondStruck e w words o asked →
+-- what is so of the second pass behind the place of the workspace
+second_at : (e : CallContext) (w : Workspace) (to : Place) (words : List ℕ) (o : Outcome) (asked more : ℕ) → asked ≤ more → SecondStruck e w words o asked →
     SecondStruck e (record w { place = to }) words o more
 second_at e w to words o asked more le (Good small n comes asks) = Good small n comes (omega (arith, le, asks))
 second_at e w to words o asked more le (Misread end was found off n comes) =
@@ -94,7 +94,7 @@ below_one one two index below here place h = elim (lt_or place index) [
 ]
 
 -- where all entries are the same, the logs are
-compared_all : (w : Walk) (index : ℕ) → compared w ≤ index →
+compared_all : (w : Workspace) (index : ℕ) → compared w ≤ index →
     ((place : ℕ) → place < index → AlikeAt (slice_get w.first_log.items place) (slice_get w.second_log.items place)) → AlikeLogs w.first_log.items w.second_log.items
 compared_all w index all below = λ place. elim (lt_or place index) [
   | inl less ↦ below place less
@@ -105,13 +105,13 @@ compared_all w index all below = λ place. elim (lt_or place index) [
 -- Behind equal logs and equal outputs.
 
 -- what an honest second pass on these words keeps
-second_keeps : (e : Errand) (w : Walk) (found words : List ℕ) (o : Outcome) (n : ℕ) → ComesOn e w found words o n → Keeps found w.second_log.items words
+second_keeps : (e : CallContext) (w : Workspace) (found words : List ℕ) (o : Outcome) (n : ℕ) → ComesOn e w found words o n → Keeps found w.second_log.items words
 second_keeps e w found words o n comes =
     subst (λ (x : After). Keeps found x.machine.log.items x.machine.words) comes (keeps (setting_on e w.wanted) (start_on e found w.notes) refl n)
 
-module _ (e : Errand) (trusted : IsTrusted e) (w : Walk) (words : List ℕ) (asked more : ℕ) (le : asked ≤ more)
+module _ (e : CallContext) (trusted : IsTrusted e) (w : Workspace) (words : List ℕ) (asked more : ℕ) (le : asked ≤ more)
     (logs : AlikeLogs w.first_log.items w.second_log.items) (outputs : w.first.bytes.items ≡ reply_of w) where
-  abbrev verified : Walk
+  abbrev verified : Workspace
   verified = record (closed w) { place = at Verify 0 }
 
   -- the second pass, with the same log, wrote what an honest first one did, whatever stood at the addresses of the log
@@ -158,7 +158,7 @@ module _ (e : Errand) (trusted : IsTrusted e) (w : Walk) (words : List ℕ) (ask
 
 -- The act.
 
-module _ (e : Errand) (w : Walk) (words : List ℕ) (asked more : ℕ) (le : asked ≤ more) (nothing : w.want ≡ Nothing) (gate : w.gate.done ≡ phase_number Compare) where
+module _ (e : CallContext) (w : Workspace) (words : List ℕ) (asked more : ℕ) (le : asked ≤ more) (nothing : w.want ≡ Nothing) (gate : w.gate.done ≡ phase_number Compare) where
   aborts_well : (cause : AbortCause) → ActsWell e Compare more (acted w words (Aborts cause))
   aborts_well cause = acts_well e Compare w words more (Aborts cause) nothing gate tt
 
@@ -204,7 +204,7 @@ module _ (e : Errand) (w : Walk) (words : List ℕ) (asked more : ℕ) (le : ask
   closing_well : WordsStruck e (record (closed w) { place = at Verify 0 }) words more → w.first.bytes.items ≡ reply_of w →
       ActsWell e Compare more (honest (closes Compare w words Nothing (at Verify 0)))
   closing_well stand outputs =
-      subst (ActsWell e Compare more) (sym (closes_in_turn Compare w words (at Verify 0) gate))
+      subst (ActsWell e Compare more) (sym (closes_in_step Compare w words (at Verify 0) gate))
       (closed_acts e Compare w words more (at Verify 0) refl (ap risen gate) (leads_well stand outputs))
 
   -- the honest end of the comparison of the outputs
@@ -237,14 +237,14 @@ module _ (e : Errand) (w : Walk) (words : List ℕ) (asked more : ℕ) (le : ask
         (λ outputs. words_after e trusted w words asked more le (compared_all w w.place.index (ltb-false w.place.index (compared w) h) below) outputs second)
         (same_reply w.first.code w.first.bytes.items w.second.code w.second.bytes.items) refl
 
-compare_moved : (e : Errand) (trusted : IsTrusted e) (w : Walk) (lent : Option (List ℕ)) (steps asked index : ℕ) → InCompare e w lent steps asked → IsAimed e w →
+compare_moved : (e : CallContext) (trusted : IsTrusted e) (w : Workspace) (lent : Option (List ℕ)) (steps asked index : ℕ) → InCompare e w lent steps asked → IsAimed e w →
     On lent (λ words. CompareStruck e (record w { place = at Compare index }) words asked)
 compare_moved e trusted w None steps asked index i aimed = absurd (let never : None ≡ Some _ = i.both.words in let z : ⊥ = cc in z)
 compare_moved e trusted w (Some words) steps asked index i aimed =
     Fine (answers_like e w (record w { place = at Compare index }) words asked asked (moved_like w (at Compare index)) refl (omega arith)
     (answers_clean e trusted w words i.time i.made i.end asked aimed i.both))
 
-pub compare_laws : (e : Errand) → IsTrusted e → PhaseLaws e Compare
+pub compare_laws : (e : CallContext) → IsTrusted e → PhaseLaws e Compare
 compare_laws e trusted = record {
   moved = λ w lent steps asked index clean knows. compare_moved e trusted w lent steps asked index clean knows;
   struck = λ now small told w words steps asked n y nothing clean knows run.

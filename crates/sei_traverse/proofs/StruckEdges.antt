@@ -18,11 +18,11 @@ use Rattle.sei_pass.specs.State.{PassState}
 use Rattle.sei_stmt.specs.Machine.{Machine}
 use Rattle.sei_traverse.specs.declared.turned.Want.{Want}
 use Rattle.sei_traverse.specs.declared.turned.Want.TheVariants.{Nothing, Take as WantTake, Enter as WantEnter, Give as WantGive}
-use Rattle.sei_traverse.specs.declared.walk.Ending.TheVariants.{Leads, Refuses, Aborts}
-use Rattle.sei_traverse.specs.declared.walk.Walk.{Walk}
+use Rattle.sei_traverse.specs.declared.workspace.Ending.TheVariants.{Leads, Refuses, Aborts}
+use Rattle.sei_traverse.specs.declared.workspace.Workspace.{Workspace}
 use Rattle.sei_traverse.specs.Acts.{Acted, acted, ends, at, closed_to, closing_then, closes}
-use Rattle.sei_traverse.specs.Errand.{Errand, Follows}
-use Rattle.sei_traverse.specs.Facts.{Knows, Wanted, closing_want}
+use Rattle.sei_traverse.specs.CallContext.{CallContext, Follows}
+use Rattle.sei_traverse.specs.FaultInvariant.{Knows, Wanted, closing_want}
 use Rattle.sei_traverse.proofs.ClosesNext.ClosesNext.{Stays, Closes, Lacks}
 use Rattle.sei_traverse.specs.Phases.{reply_of, guard_tree, guard_call, take_tree, take_wanted, store_wanted, send_want, enter_tree, give_tree, send_tree, done_tree}
 use Rattle.sei_traverse.specs.Given.{Given}
@@ -31,13 +31,13 @@ use Rattle.sei_traverse.specs.Struck.{IsAimed, IsHonestResult, StruckInTake, Has
 use Rattle.sei_traverse.specs.Trusted.{IsTrusted}
 use Rattle.sei_traverse.specs.Unstruck.{InGuard, InTake, InBoth, HasOutput, CleanIn}
 use Rattle.sei_traverse.proofs.CleanAnswers.{answers_whole}
-use Rattle.sei_traverse.proofs.Closes.{closed_walk}
+use Rattle.sei_traverse.proofs.Closes.{closed_workspace}
 use Rattle.sei_traverse.proofs.PhaseLaws.{lent_in, given_for, LeadsWell, ActsWell, PhaseLaws}
 use Rattle.sei_traverse.proofs.PhaseLaws.LeadsWell.{Onward, ToEnd}
 
--- What holds of a walk holds of another one with the same parts, behind more questions.
+-- What holds of a workspace holds of another one with the same parts, behind more questions.
 
-pub answers_at : (e : Errand) (w v : Walk) (words : List ℕ) (asked more : ℕ) → v.wanted ≡ w.wanted → v.notes ≡ w.notes → v.second ≡ w.second → asked ≤ more → IsHonestResult e w words asked → IsHonestResult e v words more
+pub answers_at : (e : CallContext) (w v : Workspace) (words : List ℕ) (asked more : ℕ) → v.wanted ≡ w.wanted → v.notes ≡ w.notes → v.second ≡ w.second → asked ≤ more → IsHonestResult e w words asked → IsHonestResult e v words more
 answers_at e w v words asked more wanted notes second le a = record {
   aimed = record { fit = a.aimed.fit; wanted = wanted ∙ a.aimed.wanted };
   time = a.time;
@@ -53,14 +53,14 @@ answers_at e w v words asked more wanted notes second le a = record {
   questions = omega (arith, a.questions, le);
 }
 
-pub enter_at : (e : Errand) (w v : Walk) (words : List ℕ) (asked more : ℕ) → v.wanted ≡ w.wanted → v.notes ≡ w.notes → v.second ≡ w.second → v.wire ≡ w.wire → asked ≤ more →
+pub enter_at : (e : CallContext) (w v : Workspace) (words : List ℕ) (asked more : ℕ) → v.wanted ≡ w.wanted → v.notes ≡ w.notes → v.second ≡ w.second → v.wire ≡ w.wire → asked ≤ more →
     HasCopy e w words asked → HasCopy e v words more
 enter_at e w v words asked more wanted notes second wire le s = record {
   answers = answers_at e w v words asked more wanted notes second le s.answers;
   wire = ap (λ k. k.items) wire ∙ s.wire ∙ sym (ap (λ (p : PassState). p.bytes.items) second);
 }
 
-send_at : (e : Errand) (w v : Walk) (asked more : ℕ) → v.wanted ≡ w.wanted → v.notes ≡ w.notes → v.second ≡ w.second → v.wire ≡ w.wire → asked ≤ more → HasCopyOfSome e w asked → HasCopyOfSome e v more
+send_at : (e : CallContext) (w v : Workspace) (asked more : ℕ) → v.wanted ≡ w.wanted → v.notes ≡ w.notes → v.second ≡ w.second → v.wire ≡ w.wire → asked ≤ more → HasCopyOfSome e w asked → HasCopyOfSome e v more
 send_at e w v asked more wanted notes second wire le s = record { words = s.words; answered = enter_at e w v s.words asked more wanted notes second wire le s.answered }
 
 pub on_map : (P Q : List ℕ → Type 0) (lent : Option (List ℕ)) → ((words : List ℕ) → P words → Q words) → On lent P → On lent Q
@@ -76,7 +76,7 @@ no_less asked n = omega arith
 -- Acts that end well.
 
 -- one that aborts
-pub aborts_well : (e : Errand) (phase : Phase) (asked : ℕ) (w : Walk) (words : List ℕ) (cause : AbortCause) → w.want ≡ Nothing → w.gate.done ≡ phase_number phase →
+pub aborts_well : (e : CallContext) (phase : Phase) (asked : ℕ) (w : Workspace) (words : List ℕ) (cause : AbortCause) → w.want ≡ Nothing → w.gate.done ≡ phase_number phase →
     ActsWell e phase asked (acted w words (Aborts cause))
 aborts_well e phase asked w words cause nothing gate = record {
   wants = subst (λ (x : Want). Wanted e w (lent_in phase words) asked x) (sym nothing) tt;
@@ -85,7 +85,7 @@ aborts_well e phase asked w words cause nothing gate = record {
 }
 
 -- one that leads on, closes no phase, and wants nothing
-pub leads_well : (e : Errand) (phase : Phase) (asked : ℕ) (w : Walk) (words : List ℕ) (to : Place) → w.want ≡ Nothing → w.gate.done ≡ phase_number phase →
+pub leads_well : (e : CallContext) (phase : Phase) (asked : ℕ) (w : Workspace) (words : List ℕ) (to : Place) → w.want ≡ Nothing → w.gate.done ≡ phase_number phase →
     LeadsWell e phase w words asked to → ActsWell e phase asked (acted w words (Leads to))
 leads_well e phase asked w words to nothing gate leads = record {
   wants = subst (λ (x : Want). Wanted e w (lent_in phase words) asked x) (sym nothing) tt;
@@ -94,19 +94,19 @@ leads_well e phase asked w words to nothing gate leads = record {
 }
 
 -- one that closes its phase, and leads on
-pub closes_well : (e : Errand) (phase : Phase) (asked : ℕ) (w : Walk) (words : List ℕ) (to : Place) → w.gate.done ≡ phase_number phase + 1 → w.want ≡ closing_want w phase →
+pub closes_well : (e : CallContext) (phase : Phase) (asked : ℕ) (w : Workspace) (words : List ℕ) (to : Place) → w.gate.done ≡ phase_number phase + 1 → w.want ≡ closing_want w phase →
     Wanted e w (lent_in phase words) asked w.want → LeadsWell e phase w words asked to → ActsWell e phase asked (acted w words (Leads to))
 closes_well e phase asked w words to gate want wanted leads = record { wants = wanted; once = Closes phase refl gate want; ends = leads }
 
 -- what holds behind either answer of its test always holds of an act that closes a phase
-pub always_closes : (P : Acted → Type 0) (phase : Phase) (w : Walk) (words : List ℕ) (on : Walk → Tree Acted) → Always P (on (closed_walk w)) → P (acted w words (Aborts (Gate w.gate.done))) →
+pub always_closes : (P : Acted → Type 0) (phase : Phase) (w : Workspace) (words : List ℕ) (on : Workspace → Tree Acted) → Always P (on (closed_workspace w)) → P (acted w words (Aborts (Gate w.gate.done))) →
     Always P (closing_then phase w words on)
 always_closes P phase w words on well aborted =
     λ b. elim b as (λ (v : Bool). Always P (closed_to w words on (v, if v then risen w.gate.done else w.gate.done))) [ true ↦ well | false ↦ aborted ]
 
 -- Guard
 
-module _ (e : Errand) (g : Given) (w : Walk) (words : List ℕ) (steps asked more : ℕ) (nothing : w.want ≡ Nothing) (i : InGuard e w steps asked) where
+module _ (e : CallContext) (g : Given) (w : Workspace) (words : List ℕ) (steps asked more : ℕ) (nothing : w.want ≡ Nothing) (i : InGuard e w steps asked) where
   guard_refuses : ActsWell e Guard more (acted w words Refuses)
   guard_refuses = record {
     wants = subst (λ (x : Want). Wanted e w None more x) (sym nothing) tt;
@@ -114,8 +114,8 @@ module _ (e : Errand) (g : Given) (w : Walk) (words : List ℕ) (steps asked mor
     ends = (refl, i.is.gate);
   }
 
-  guard_leads : ActsWell e Guard more (acted (record (closed_walk w) { want = Nothing }) words (Leads (at Take 0)))
-  guard_leads = closes_well e Guard more (record (closed_walk w) { want = Nothing }) words (at Take 0) (ap risen i.is.gate) refl tt
+  guard_leads : ActsWell e Guard more (acted (record (closed_workspace w) { want = Nothing }) words (Leads (at Take 0)))
+  guard_leads = closes_well e Guard more (record (closed_workspace w) { want = Nothing }) words (at Take 0) (ap risen i.is.gate) refl tt
       (Onward (ap risen i.is.gate) (record {
         first = record { first = i.first.first; first_log = i.first.first_log; notes = i.first.notes };
         second = record { second = i.second.second; second_log = i.second.second_log };
@@ -132,7 +132,7 @@ module _ (e : Errand) (g : Given) (w : Walk) (words : List ℕ) (steps asked mor
   guard_always = λ b. elim b as (λ (v : Bool). Always (ActsWell e Guard more) (if v then guard_call g w words else ends w words Refuses)) [ true ↦ guard_calls | false ↦ guard_refuses ]
 
 -- whatever a strike makes of a test of Guard, it refuses, aborts, or leads to Take
-pub guard_struck : (e : Errand) (now : ℕ) → now < 2 ^ 64 → Follows e.clock now → (w : Walk) (words : List ℕ) (steps asked n : ℕ) (y : Acted) → w.want ≡ Nothing →
+pub guard_struck : (e : CallContext) (now : ℕ) → now < 2 ^ 64 → Follows e.clock now → (w : Workspace) (words : List ℕ) (steps asked n : ℕ) (y : Acted) → w.want ≡ Nothing →
     CleanIn e w (lent_in Guard words) steps asked Guard → Knows e w Guard →
     StruckRun (act_in (given_for e Guard w.wanted) now Guard w.place.index w words) y n → ActsWell e Guard (asked + n) y
 guard_struck e now small told w words steps asked n y nothing i knows run =
@@ -140,22 +140,22 @@ guard_struck e now small told w words steps asked n y nothing i knows run =
 
 -- Take
 
-take_at : (e : Errand) (w v : Walk) → v.first ≡ w.first → v.first_log ≡ w.first_log → v.notes ≡ w.notes → v.second ≡ w.second → v.second_log ≡ w.second_log → StruckInTake e w → StruckInTake e v
+take_at : (e : CallContext) (w v : Workspace) → v.first ≡ w.first → v.first_log ≡ w.first_log → v.notes ≡ w.notes → v.second ≡ w.second → v.second_log ≡ w.second_log → StruckInTake e w → StruckInTake e v
 take_at e w v first first_log notes second second_log s = record {
   first = record { first = first ∙ s.first.first; first_log = first_log ∙ s.first.first_log; notes = notes ∙ s.first.notes };
   second = record { second = second ∙ s.second.second; second_log = second_log ∙ s.second.second_log };
 }
 
-module _ (e : Errand) (g : Given) (space : g.space ≡ e.space) (w : Walk) (words : List ℕ) (more : ℕ) (nothing : w.want ≡ Nothing) (gate : w.gate.done ≡ 1) (s : StruckInTake e w) where
+module _ (e : CallContext) (g : Given) (space : g.space ≡ e.space) (w : Workspace) (words : List ℕ) (more : ℕ) (nothing : w.want ≡ Nothing) (gate : w.gate.done ≡ 1) (s : StruckInTake e w) where
   -- whatever bucket is stored
   take_stores : (wanted : ℕ) → ActsWell e Take more (acted (record w { wanted = wanted }) words (Leads (at Take 1)))
   take_stores wanted = leads_well e Take more (record w { wanted = wanted }) words (at Take 1) nothing gate
       (Onward gate (take_at e w (record w { wanted = wanted; place = at Take 1 }) refl refl refl refl refl s))
 
   -- a wanted bucket is there
-  take_leads : nat_lt w.wanted g.space.geometry.buckets ≡ true → ActsWell e Take more (acted (record (closed_walk w) { want = WantTake w.wanted }) words (Leads (at First 0)))
+  take_leads : nat_lt w.wanted g.space.geometry.buckets ≡ true → ActsWell e Take more (acted (record (closed_workspace w) { want = WantTake w.wanted }) words (Leads (at First 0)))
   take_leads below =
-      closes_well e Take more (record (closed_walk w) { want = WantTake w.wanted }) words (at First 0) (ap risen gate) refl
+      closes_well e Take more (record (closed_workspace w) { want = WantTake w.wanted }) words (at First 0) (ap risen gate) refl
       (refl, subst (λ x. w.wanted < x.geometry.buckets) space (ltb-true w.wanted g.space.geometry.buckets below))
       (Onward (ap risen gate) (record {
         space = ap (λ (p : PassState). p.space) s.first.first;
@@ -164,15 +164,15 @@ module _ (e : Errand) (g : Given) (space : g.space ≡ e.space) (w : Walk) (word
       }))
 
   -- one that is not ends it
-  take_lacks : nat_lt w.wanted g.space.geometry.buckets ≡ false → ActsWell e Take more (acted (closed_walk w) words (Aborts (Range w.wanted)))
+  take_lacks : nat_lt w.wanted g.space.geometry.buckets ≡ false → ActsWell e Take more (acted (closed_workspace w) words (Aborts (Range w.wanted)))
   take_lacks past = record {
-    wants = subst (λ (x : Want). Wanted e (closed_walk w) None more x) (sym nothing) tt;
+    wants = subst (λ (x : Want). Wanted e (closed_workspace w) None more x) (sym nothing) tt;
     once = Lacks refl (ap risen gate) nothing (subst (λ x. x.geometry.buckets ≤ w.wanted) space (ltb-false w.wanted g.space.geometry.buckets past)) refl;
     ends = tt;
   }
 
   take_tested : (b : Bool) → nat_lt w.wanted g.space.geometry.buckets ≡ b →
-      Always (ActsWell e Take more) (if b then ends (record (closed_walk w) { want = WantTake w.wanted }) words (Leads (at First 0)) else ends (closed_walk w) words (Aborts (Range w.wanted)))
+      Always (ActsWell e Take more) (if b then ends (record (closed_workspace w) { want = WantTake w.wanted }) words (Leads (at First 0)) else ends (closed_workspace w) words (Aborts (Range w.wanted)))
   take_tested true below = take_leads below
   take_tested false below = take_lacks below
 
@@ -187,10 +187,10 @@ module _ (e : Errand) (g : Given) (space : g.space ≡ e.space) (w : Walk) (word
   take_always : (index : ℕ) → Always (ActsWell e Take more) (take_tree g index w words)
   take_always index = take_by (index == 0)
 
-take_clean : (e : Errand) (w : Walk) (steps asked : ℕ) → InTake e w steps asked → StruckInTake e w
+take_clean : (e : CallContext) (w : Workspace) (steps asked : ℕ) → InTake e w steps asked → StruckInTake e w
 take_clean e w steps asked i = record { first = i.first; second = i.second }
 
-pub take_laws : (e : Errand) → IsTrusted e → PhaseLaws e Take
+pub take_laws : (e : CallContext) → IsTrusted e → PhaseLaws e Take
 take_laws e trusted = record {
   moved = λ w lent steps asked index i knows. take_at e w (record w { place = at Take index }) refl refl refl refl refl (take_clean e w steps asked i);
   struck = λ now small told w words steps asked n y nothing i knows run.
@@ -203,14 +203,14 @@ take_laws e trusted = record {
 
 -- Where both passes were honest
 
-pub both_answers : (e : Errand) → IsTrusted e → (w : Walk) (lent : Option (List ℕ)) (time made : ℕ) (end : Machine) (asked : ℕ) → IsAimed e w → InBoth e w lent time made end asked →
+pub both_answers : (e : CallContext) → IsTrusted e → (w : Workspace) (lent : Option (List ℕ)) (time made : ℕ) (end : Machine) (asked : ℕ) → IsAimed e w → InBoth e w lent time made end asked →
     On lent (λ words. IsHonestResult e w words asked)
 both_answers e trusted w lent time made end asked aimed both =
     subst (λ (o : Option (List ℕ)). On o (λ words. IsHonestResult e w words asked)) (sym both.words)
     (answers_whole e time made end both.whole trusted w end.words asked aimed both.first.notes refl
     (ap (λ (p : PassState). p.bytes.items) both.second.second) (omega (arith, both.questions)))
 
-both_enter : (e : Errand) → IsTrusted e → (w : Walk) (lent : Option (List ℕ)) (time made : ℕ) (end : Machine) (asked : ℕ) → IsAimed e w → InBoth e w lent time made end asked → w.wire.items ≡ end.bytes.items →
+both_enter : (e : CallContext) → IsTrusted e → (w : Workspace) (lent : Option (List ℕ)) (time made : ℕ) (end : Machine) (asked : ℕ) → IsAimed e w → InBoth e w lent time made end asked → w.wire.items ≡ end.bytes.items →
     On lent (λ words. HasCopy e w words asked)
 both_enter e trusted w lent time made end asked aimed both copy =
     on_map (λ words. IsHonestResult e w words asked) (λ words. HasCopy e w words asked) lent
@@ -218,7 +218,7 @@ both_enter e trusted w lent time made end asked aimed both copy =
     (both_answers e trusted w lent time made end asked aimed both)
 
 -- in Send and Done the words are those of the end
-pub answers_answered : (e : Errand) → IsTrusted e → (w : Walk) (time made : ℕ) (end : Machine) (asked : ℕ) → IsAimed e w → HasOutput e w time made end asked → HasCopyOfSome e w asked
+pub answers_answered : (e : CallContext) → IsTrusted e → (w : Workspace) (time made : ℕ) (end : Machine) (asked : ℕ) → IsAimed e w → HasOutput e w time made end asked → HasCopyOfSome e w asked
 answers_answered e trusted w time made end asked aimed i =
     let reply : reply_of w ≡ end.bytes.items = ap (λ (p : PassState). p.bytes.items) i.second.second in
     record {
@@ -231,27 +231,27 @@ answers_answered e trusted w time made end asked aimed i =
 
 -- Enter and Give
 
-enter_always : (e : Errand) (w : Walk) (words : List ℕ) (asked more : ℕ) → asked ≤ more → w.want ≡ Nothing → w.gate.done ≡ 7 → HasCopy e w words asked →
+enter_always : (e : CallContext) (w : Workspace) (words : List ℕ) (asked more : ℕ) → asked ≤ more → w.want ≡ Nothing → w.gate.done ≡ 7 → HasCopy e w words asked →
     Always (ActsWell e Enter more) (enter_tree w words)
 enter_always e w words asked more le nothing gate s =
     let next : risen w.gate.done ≡ 8 = ap risen gate in
-    let v : Walk = record (closed_walk w) { want = WantEnter } in
+    let v : Workspace = record (closed_workspace w) { want = WantEnter } in
     always_closes (ActsWell e Enter more) Enter w words (λ v. ends (record v { want = WantEnter }) words (Leads (at Give 0)))
     (closes_well e Enter more v words (at Give 0) next refl (answers_at e w v words asked more refl refl refl le s.answers)
     (Onward next (enter_at e w (record v { place = at Give 0 }) words asked more refl refl refl refl le s)))
     (aborts_well e Enter more w words (Gate w.gate.done) nothing gate)
 
-give_always : (e : Errand) (w : Walk) (words : List ℕ) (asked more : ℕ) → asked ≤ more → w.want ≡ Nothing → w.gate.done ≡ 8 → HasCopy e w words asked →
+give_always : (e : CallContext) (w : Workspace) (words : List ℕ) (asked more : ℕ) → asked ≤ more → w.want ≡ Nothing → w.gate.done ≡ 8 → HasCopy e w words asked →
     Always (ActsWell e Give more) (give_tree w words)
 give_always e w words asked more le nothing gate s =
     let next : risen w.gate.done ≡ 9 = ap risen gate in
-    let v : Walk = record (closed_walk w) { want = WantGive } in
+    let v : Workspace = record (closed_workspace w) { want = WantGive } in
     always_closes (ActsWell e Give more) Give w words (λ v. ends (record v { want = WantGive }) words (Leads (at Send 0)))
     (closes_well e Give more v words (at Send 0) next refl (answers_at e w v words asked more refl refl refl le s.answers)
     (Onward next (record { words = words; answered = enter_at e w (record v { place = at Send 0 }) words asked more refl refl refl refl le s })))
     (aborts_well e Give more w words (Gate w.gate.done) nothing gate)
 
-pub enter_laws : (e : Errand) → IsTrusted e → PhaseLaws e Enter
+pub enter_laws : (e : CallContext) → IsTrusted e → PhaseLaws e Enter
 enter_laws e trusted = record {
   moved = λ w lent steps asked index i knows.
       on_map (λ words. HasCopy e w words asked) (λ words. HasCopy e (record w { place = at Enter index }) words asked) lent
@@ -265,7 +265,7 @@ enter_laws e trusted = record {
       (enter_always e w words asked (asked + weighed (enter_tree w words)) (no_less asked (weighed (enter_tree w words))) nothing gate s);
 }
 
-pub give_laws : (e : Errand) → IsTrusted e → PhaseLaws e Give
+pub give_laws : (e : CallContext) → IsTrusted e → PhaseLaws e Give
 give_laws e trusted = record {
   moved = λ w lent steps asked index i knows.
       on_map (λ words. HasCopy e w words asked) (λ words. HasCopy e (record w { place = at Give index }) words asked) lent
@@ -285,30 +285,30 @@ not_empty : (byte : ℕ) (bytes reply : List ℕ) → reply ≡ byte ∷ bytes �
 not_empty byte bytes reply e f = let z : ⊥ = cc in z
 
 -- a reply that is empty is not wanted to be sent
-send_wants : (e : Errand) (v : Walk) (asked : ℕ) (reply : List ℕ) → reply_of v ≡ reply → HasCopyOfSome e v asked → Wanted e v None asked (send_want reply)
+send_wants : (e : CallContext) (v : Workspace) (asked : ℕ) (reply : List ℕ) → reply_of v ≡ reply → HasCopyOfSome e v asked → Wanted e v None asked (send_want reply)
 send_wants e v asked [] is s = tt
 send_wants e v asked (byte ∷ bytes) is s = (s, not_empty byte bytes (reply_of v) is)
 
-send_always : (e : Errand) (w : Walk) (words : List ℕ) (asked more : ℕ) → asked ≤ more → w.want ≡ Nothing → w.gate.done ≡ 9 → HasCopyOfSome e w asked →
+send_always : (e : CallContext) (w : Workspace) (words : List ℕ) (asked more : ℕ) → asked ≤ more → w.want ≡ Nothing → w.gate.done ≡ 9 → HasCopyOfSome e w asked →
     Always (ActsWell e Send more) (send_tree w words)
 send_always e w words asked more le nothing gate s =
     let next : risen w.gate.done ≡ 10 = ap risen gate in
-    let v : Walk = record (closed_walk w) { want = send_want (reply_of w) } in
+    let v : Workspace = record (closed_workspace w) { want = send_want (reply_of w) } in
     always_closes (ActsWell e Send more) Send w words (λ v. ends (record v { want = send_want (reply_of w) }) words (Leads (at Done 0)))
     (closes_well e Send more v words (at Done 0) next refl (send_wants e v more (reply_of v) refl (send_at e w v asked more refl refl refl refl le s))
     (Onward next (send_at e w (record v { place = at Done 0 }) asked more refl refl refl refl le s)))
     (aborts_well e Send more w words (Gate w.gate.done) nothing gate)
 
-done_always : (e : Errand) (w : Walk) (words : List ℕ) (asked more : ℕ) → asked ≤ more → w.want ≡ Nothing → w.gate.done ≡ 10 → HasCopyOfSome e w asked →
+done_always : (e : CallContext) (w : Workspace) (words : List ℕ) (asked more : ℕ) → asked ≤ more → w.want ≡ Nothing → w.gate.done ≡ 10 → HasCopyOfSome e w asked →
     Always (ActsWell e Done more) (done_tree w words)
 done_always e w words asked more le nothing gate s =
     let next : risen w.gate.done ≡ 11 = ap risen gate in
-    let v : Walk = record (closed_walk w) { want = Nothing } in
+    let v : Workspace = record (closed_workspace w) { want = Nothing } in
     always_closes (ActsWell e Done more) Done w words (λ v. ends (record v { want = Nothing }) words (Leads (at Done 1)))
     (closes_well e Done more v words (at Done 1) next refl tt (ToEnd refl refl next (send_at e w v asked more refl refl refl refl le s)))
     (aborts_well e Done more w words (Gate w.gate.done) nothing gate)
 
-pub send_laws : (e : Errand) → IsTrusted e → PhaseLaws e Send
+pub send_laws : (e : CallContext) → IsTrusted e → PhaseLaws e Send
 send_laws e trusted = record {
   moved = λ w lent steps asked index i knows.
       send_at e w (record w { place = at Send index }) asked asked refl refl refl refl (not_less asked) (answers_answered e trusted w i.time i.made i.end asked knows i.answered);
@@ -320,7 +320,7 @@ send_laws e trusted = record {
       (send_always e w words asked (asked + weighed (send_tree w words)) (no_less asked (weighed (send_tree w words))) nothing gate s);
 }
 
-pub done_laws : (e : Errand) → IsTrusted e → PhaseLaws e Done
+pub done_laws : (e : CallContext) → IsTrusted e → PhaseLaws e Done
 done_laws e trusted = record {
   moved = λ w lent steps asked index i knows.
       send_at e w (record w { place = at Done index }) asked asked refl refl refl refl (not_less asked) (answers_answered e trusted w i.time i.made i.end asked knows i.answered);

@@ -27,12 +27,12 @@ use Rattle.sei_pass.specs.declared.given.Which.TheVariants.{Making}
 use Rattle.sei_pass.specs.State.{PassState}
 use Rattle.sei_traverse.specs.declared.turned.Want.{Want}
 use Rattle.sei_traverse.specs.declared.turned.Want.TheVariants.{Nothing}
-use Rattle.sei_traverse.specs.declared.walk.Ending.TheVariants.{Leads, Aborts}
-use Rattle.sei_traverse.specs.declared.walk.Walk.{Walk}
+use Rattle.sei_traverse.specs.declared.workspace.Ending.TheVariants.{Leads, Aborts}
+use Rattle.sei_traverse.specs.declared.workspace.Workspace.{Workspace}
 use Rattle.sei_traverse.specs.Acts.{Acted, acted, ends, at, closed_to}
 use Rattle.sei_traverse.specs.Comes.{at_time, Agrees, Comes, EndsAlways}
-use Rattle.sei_traverse.specs.Errand.{Errand, Follows, first_setting, first_start, Whole}
-use Rattle.sei_traverse.specs.Facts.{Wanted}
+use Rattle.sei_traverse.specs.CallContext.{CallContext, Follows, first_setting, first_start, Whole}
+use Rattle.sei_traverse.specs.FaultInvariant.{Wanted}
 use Rattle.sei_traverse.proofs.ClosesNext.{ClosesNext}
 use Rattle.sei_traverse.proofs.ClosesNext.ClosesNext.{Stays, Closes}
 use Rattle.sei_traverse.specs.PassActs.{asked_behind, pass_of, first_machine, with_first, first_from, first_to}
@@ -43,7 +43,7 @@ use Rattle.sei_traverse.specs.Struck.FirstStruck.{Restorable as Undoes, Misread 
 use Rattle.sei_traverse.specs.Struck.RestoreStruck.{Restorable as StillUndoes, Misread as HasMisread}
 use Rattle.sei_traverse.specs.Trusted.{IsTrusted}
 use Rattle.sei_traverse.specs.Unstruck.{SecondIsNew, InFirst, FirstRuns}
-use Rattle.sei_traverse.proofs.Closes.{closed, closes_in_turn, first_behind}
+use Rattle.sei_traverse.proofs.Closes.{closed, closes_in_step, first_behind}
 use Rattle.sei_traverse.proofs.PhaseLaws.{given_for, EndsRight, ActsWell, PhaseLaws}
 use Rattle.sei_traverse.proofs.PhaseLaws.LeadsWell.{Onward}
 use Rattle.sei_traverse.proofs.SmallNotes.{small_agrees, small_honest, small_struck}
@@ -90,21 +90,21 @@ comes_keeps g start n q x none c =
 -- Honest first passes.
 
 -- a first pass has come here, at a time that is the told one, where one is told
-record Came (e : Errand) (n q : ℕ) (x : After) : Type 0 where
+record Came (e : CallContext) (n q : ℕ) (x : After) : Type 0 where
   comes : Comes (first_setting e) (first_start e) n x q
   told : Follows e.clock comes.time
 
-came_at : (e : Errand) (clock : Option ℕ) → e.clock ≡ clock → (n q : ℕ) (x : After) (time now : ℕ) → Follows clock time → Follows clock now →
+came_at : (e : CallContext) (clock : Option ℕ) → e.clock ≡ clock → (n q : ℕ) (x : After) (time now : ℕ) → Follows clock time → Follows clock now →
     Comes (first_setting e) (first_start e) n x q → (time ≡ now → Agrees x.machine.notes.now now) → Came e n q x
 came_at e None is n q x time now h k c f = record { comes = c; told = subst (λ (o : Option ℕ). Follows o c.time) (sym is) tt }
 came_at e (Some t) is n q x time now h k c f =
     record { comes = record { time = now; agrees = f (h ∙ sym k); run = c.run; asked = c.asked }; told = subst (λ (o : Option ℕ). Follows o now) (sym is) k }
 
 -- the step of a first pass
-abbrev first_step : Errand → ℕ → ℕ → Machine → Tree After
+abbrev first_step : CallContext → ℕ → ℕ → Machine → Tree After
 first_step e now i m = step_tree (at_time (first_setting e) now) i m
 
-module _ (e : Errand) (always : EndsAlways (first_setting e) (first_start e)) (n q i : ℕ) (m : Machine) (here : Came e n q (at_outcome m (Next i))) where
+module _ (e : CallContext) (always : EndsAlways (first_setting e) (first_start e)) (n q i : ℕ) (m : Machine) (here : Came e n q (at_outcome m (Next i))) where
   -- it makes one statement more, whatever the clock answers
   came_on : (now : ℕ) → now < 2 ^ 64 → Follows e.clock now → Came e (suc n) (q + weighed (first_step e now i m)) (honest (first_step e now i m))
   came_on now small told =
@@ -138,10 +138,10 @@ module _ (e : Errand) (always : EndsAlways (first_setting e) (first_start e)) (n
 -- How an act ends.
 
 -- an act that wants nothing
-wants_nothing : (e : Errand) (asked : ℕ) (y : Acted) → y.walk.want ≡ Nothing → ClosesNext e 2 y.walk (y.ending ≡ Aborts (Range y.walk.wanted)) → EndsRight e First y.walk y.words asked y.ending →
+wants_nothing : (e : CallContext) (asked : ℕ) (y : Acted) → y.workspace.want ≡ Nothing → ClosesNext e 2 y.workspace (y.ending ≡ Aborts (Range y.workspace.wanted)) → EndsRight e First y.workspace y.words asked y.ending →
     ActsWell e First asked y
 wants_nothing e asked y nothing once right = record {
-  wants = subst (λ (t : Want). Wanted e y.walk (Some y.words) asked t) (sym nothing) tt;
+  wants = subst (λ (t : Want). Wanted e y.workspace (Some y.words) asked t) (sym nothing) tt;
   once = once;
   ends = right;
 }
@@ -152,14 +152,14 @@ all_pending log words taken u =
     let all : length log - 0 ≡ length log = omega arith in
     ap (λ (n : ℕ). undone (take n log) words) all ∙ ap (λ (l : List Change). undone l words) (take_whole log) ∙ u
 
--- the walk behind a statement that leads on, and behind one that halts
-abbrev stepped : Walk → Machine → ℕ → Walk
+-- the workspace behind a statement that leads on, and behind one that halts
+abbrev stepped : Workspace → Machine → ℕ → Workspace
 stepped w m index = record (with_first w m) { place = at First index }
 
-abbrev halted : Walk → Machine → Walk
+abbrev halted : Workspace → Machine → Workspace
 halted w m = record (closed (with_first w m)) { place = at Restore 0 }
 
-module _ (e : Errand) (w : Walk) (nothing : w.want ≡ Nothing) (gate : w.gate.done ≡ phase_number First) (space : w.first.space ≡ e.space) (second : SecondIsNew e w) (m : Machine) (asked : ℕ) where
+module _ (e : CallContext) (w : Workspace) (nothing : w.want ≡ Nothing) (gate : w.gate.done ≡ phase_number First) (space : w.first.space ≡ e.space) (second : SecondIsNew e w) (m : Machine) (asked : ℕ) where
   leads_on : (index : ℕ) → FirstStruck e (stepped w m index) m.words asked → ActsWell e First asked (acted (with_first w m) m.words (Leads (at First index)))
   leads_on index s =
       wants_nothing e asked (acted (with_first w m) m.words (Leads (at First index))) nothing (Stays gate nothing)
@@ -182,7 +182,7 @@ module _ (e : Errand) (w : Walk) (nothing : w.want ≡ Nothing) (gate : w.gate.d
       ActsWell e First asked (honest (first_from (with_first w m) m.words o))
   ends_so_by (Next index) next halts = leads_on index (next index refl)
   ends_so_by Halted next halts =
-      subst (λ (y : Acted). ActsWell e First asked y) (sym (closes_in_turn First (with_first w m) m.words (at Restore 0) gate)) (leads_behind (halts refl))
+      subst (λ (y : Acted). ActsWell e First asked y) (sym (closes_in_step First (with_first w m) m.words (at Restore 0) gate)) (leads_behind (halts refl))
   ends_so_by (Bad cause) next halts = wants_nothing e asked (acted (with_first w m) m.words (Aborts cause)) nothing (Stays gate nothing) tt
 
   -- where the log undoes what was changed, it may go on anywhere
@@ -190,11 +190,11 @@ module _ (e : Errand) (w : Walk) (nothing : w.want ≡ Nothing) (gate : w.gate.d
   undoes_on o small u = ends_so_by o (λ index is. Undoes small u) (λ is. StillUndoes small (all_pending m.log.items m.words e.taken u))
 
 -- behind the closing test nothing is asked
-closed_asks_no_more : (w : Walk) (words : List ℕ) (b : Bool) (done : ℕ) (y : Acted) (n : ℕ) → StruckRun (closed_to w words (λ v. ends (record v { want = Nothing }) words (Leads (at Restore 0))) (b, done)) y n → ⊥
+closed_asks_no_more : (w : Workspace) (words : List ℕ) (b : Bool) (done : ℕ) (y : Acted) (n : ℕ) → StruckRun (closed_to w words (λ v. ends (record v { want = Nothing }) words (Leads (at Restore 0))) (b, done)) y n → ⊥
 closed_asks_no_more w words true done y n s = s
 closed_asks_no_more w words false done y n s = s
 
-module _ (e : Errand) (w : Walk) (nothing : w.want ≡ Nothing) (gate : w.gate.done ≡ phase_number First) (space : w.first.space ≡ e.space) (second : SecondIsNew e w) (m : Machine) (asked : ℕ) (small : IsNoted e m.notes.now) (u : undone m.log.items m.words ≡ e.taken) where
+module _ (e : CallContext) (w : Workspace) (nothing : w.want ≡ Nothing) (gate : w.gate.done ≡ phase_number First) (space : w.first.space ≡ e.space) (second : SecondIsNew e w) (m : Machine) (asked : ℕ) (small : IsNoted e m.notes.now) (u : undone m.log.items m.words ≡ e.taken) where
   -- a strike behind the statement falls on the closing test
   struck_behind : (o : Outcome) (y : Acted) (n : ℕ) → StruckRun (first_from (with_first w m) m.words o) y n → ActsWell e First asked y
   struck_behind (Next index) y n s = absurd s
@@ -207,17 +207,17 @@ module _ (e : Errand) (w : Walk) (nothing : w.want ≡ Nothing) (gate : w.gate.d
 -- A strike in the first pass.
 
 -- a clean first pass has come here
-came_clean : (e : Errand) (w : Walk) (words : List ℕ) (steps asked : ℕ) (r : FirstRuns e w words steps asked) → Came e r.made asked (at_outcome (first_machine w words) (Next w.place.index))
+came_clean : (e : CallContext) (w : Workspace) (words : List ℕ) (steps asked : ℕ) (r : FirstRuns e w words steps asked) → Came e r.made asked (at_outcome (first_machine w words) (Next w.place.index))
 came_clean e w words steps asked r = record { comes = r.comes; told = r.told }
 
-clean_keeps : (e : Errand) (w : Walk) (words : List ℕ) (steps asked : ℕ) → FirstRuns e w words steps asked → Keeps e.taken w.first_log.items words
+clean_keeps : (e : CallContext) (w : Workspace) (words : List ℕ) (steps asked : ℕ) → FirstRuns e w words steps asked → Keeps e.taken w.first_log.items words
 clean_keeps e w words steps asked r =
     comes_keeps (first_setting e) (first_start e) r.made asked (at_outcome (first_machine w words) (Next w.place.index)) refl r.comes
 
-clean_small : (e : Errand) (w : Walk) (words : List ℕ) (steps asked : ℕ) → FirstRuns e w words steps asked → IsNoted e w.notes.now
+clean_small : (e : CallContext) (w : Workspace) (words : List ℕ) (steps asked : ℕ) → FirstRuns e w words steps asked → IsNoted e w.notes.now
 clean_small e w words steps asked r = small_agrees e w.notes.now r.comes.time r.told r.comes.agrees
 
-pub first_moved : (e : Errand) (w : Walk) (lent : Option (List ℕ)) (steps asked index : ℕ) → InFirst e w lent steps asked → StruckInFirst e (record w { place = at First index }) lent asked
+pub first_moved : (e : CallContext) (w : Workspace) (lent : Option (List ℕ)) (steps asked index : ℕ) → InFirst e w lent steps asked → StruckInFirst e (record w { place = at First index }) lent asked
 first_moved e w None steps asked index h = record {
   space = ap (λ (p : PassState). p.space) h.at.first.first;
   second = record { second = h.second.second; second_log = h.second.second_log };
@@ -229,15 +229,15 @@ first_moved e w (Some words) steps asked index h = record {
   stands = Undoes (clean_small e w words steps asked h.at) (clean_keeps e w words steps asked h.at).undo;
 }
 
--- the given parts of a step are the errand's, where the wanted bucket is the call's
-given_step : (e : Errand) (now : ℕ) (w : Walk) (m : Machine) → w.sealed ≡ e.sealed → w.wanted ≡ e.call.bucket →
+-- the given parts of a step are the call context's, where the wanted bucket is the call's
+given_step : (e : CallContext) (now : ℕ) (w : Workspace) (m : Machine) → w.sealed ≡ e.sealed → w.wanted ≡ e.call.bucket →
     step_tree (setting_in (given_for e First w.wanted) Making w.sealed now) w.place.index m ≡ first_step e now w.place.index m
 given_step e now w m sealed wanted =
     ap (λ (s : Sealed). step_tree (setting_in (given_of e.behavior e.input e.space (Some w.wanted)) Making s now) w.place.index m) sealed
     ∙ ap (λ (b : ℕ). step_tree (setting_in (given_of e.behavior e.input e.space (Some b)) Making e.sealed now) w.place.index m) wanted
 
 -- an old word was misread
-module _ (e : Errand) (w : Walk) (words : List ℕ) (aimed : IsAimed e w) (keep : Keeps e.taken w.first_log.items words) (a was v i n q asked : ℕ) (more : q ≤ asked) where
+module _ (e : CallContext) (w : Workspace) (words : List ℕ) (aimed : IsAimed e w) (keep : Keeps e.taken w.first_log.items words) (a was v i n q asked : ℕ) (more : q ≤ asked) where
   abbrev misread_machine : Machine
   misread_machine = stored (one_made (first_machine w words)) a (change_of a was v) v
 
@@ -270,7 +270,7 @@ module _ (e : Errand) (w : Walk) (words : List ℕ) (aimed : IsAimed e w) (keep 
       misread_by (pushed w.first_log (change_of a word v)) refl (omega (arith, length-append w.first_log.items (change_of a word v ∷ [])))
       (subst (λ (x : After). Came e n q x) is c)
 
-module _ (e : Errand) (always : EndsAlways (first_setting e) (first_start e)) (now : ℕ) (small : now < 2 ^ 64) (told : Follows e.clock now) (w : Walk) (words : List ℕ) (steps asked : ℕ)
+module _ (e : CallContext) (always : EndsAlways (first_setting e) (first_start e)) (now : ℕ) (small : now < 2 ^ 64) (told : Follows e.clock now) (w : Workspace) (words : List ℕ) (steps asked : ℕ)
     (nothing : w.want ≡ Nothing) (h : InFirst e w (Some words) steps asked) (aimed : IsAimed e w) where
   abbrev clean_step : Tree After
   clean_step = first_step e now w.place.index (first_machine w words)
@@ -298,7 +298,7 @@ module _ (e : Errand) (always : EndsAlways (first_setting e) (first_start e)) (n
       (effect_undone e.taken (first_machine w words) (honest clean_step).machine (honest_effect (at_time (first_setting e) now) w.place.index (first_machine w words)) (clean_keeps e w words steps asked h.at).undo)
       (honest clean_step).outcome y k s
 
-pub first_struck : (e : Errand) → IsTrusted e → (now : ℕ) → now < 2 ^ 64 → Follows e.clock now → (w : Walk) (words : List ℕ) (steps asked n : ℕ) (y : Acted) → w.want ≡ Nothing →
+pub first_struck : (e : CallContext) → IsTrusted e → (now : ℕ) → now < 2 ^ 64 → Follows e.clock now → (w : Workspace) (words : List ℕ) (steps asked n : ℕ) (y : Acted) → w.want ≡ Nothing →
     InFirst e w (Some words) steps asked → IsAimed e w → StruckRun (act_in (given_for e First w.wanted) now First w.place.index w words) y n → ActsWell e First (asked + n) y
 first_struck e trusted now small told w words steps asked n y nothing h aimed s =
     struck_within e (trusted.ends aimed.fit) now small told w words steps asked nothing h aimed y n
@@ -308,7 +308,7 @@ first_struck e trusted now small told w words steps asked n y nothing h aimed s 
 -- An honest statement behind a strike.
 
 -- but for its log, a pass with a misread word does what an honest one does
-module _ (e : Errand) (always : EndsAlways (first_setting e) (first_start e)) (now : ℕ) (small : now < 2 ^ 64) (told : Follows e.clock now) (w : Walk) (words : List ℕ) (asked : ℕ)
+module _ (e : CallContext) (always : EndsAlways (first_setting e) (first_start e)) (now : ℕ) (small : now < 2 ^ 64) (told : Follows e.clock now) (w : Workspace) (words : List ℕ) (asked : ℕ)
     (nothing : w.want ≡ Nothing) (gate : w.gate.done ≡ phase_number First) (space : w.first.space ≡ e.space) (second : SecondIsNew e w) (h : IsMisread e w words asked) (total : ℕ)
     (many : asked + (weighed (first_step e now w.place.index (first_machine w words)) + asked_behind (honest (first_step e now w.place.index (first_machine w words))).outcome) ≤ total) where
   abbrev misread_step : Tree After
@@ -385,7 +385,7 @@ module _ (e : Errand) (always : EndsAlways (first_setting e) (first_start e)) (n
       (λ index is. Misreads (misreads_on (goes_by (Next index) is tt) index is))
       (λ is. let g : IsGoing misread_end.outcome = goes_by Halted is tt in HasMisread (relogged (relogs g).log misread_end.machine) (has_misread g is) off_on)
 
-module _ (e : Errand) (now : ℕ) (w : Walk) (words : List ℕ) (asked : ℕ) (nothing : w.want ≡ Nothing) (gate : w.gate.done ≡ phase_number First) (space : w.first.space ≡ e.space) (second : SecondIsNew e w) where
+module _ (e : CallContext) (now : ℕ) (w : Workspace) (words : List ℕ) (asked : ℕ) (nothing : w.want ≡ Nothing) (gate : w.gate.done ≡ phase_number First) (space : w.first.space ≡ e.space) (second : SecondIsNew e w) where
   -- whatever bucket is lent
   abbrev given_tree : Tree After
   given_tree = step_tree (setting_in (given_for e First w.wanted) Making w.sealed now) w.place.index (first_machine w words)
@@ -414,13 +414,13 @@ module _ (e : Errand) (now : ℕ) (w : Walk) (words : List ℕ) (asked : ℕ) (n
   honest_stands trusted small told sealed (Undoes noted u) = undoes_honest small told noted u
   honest_stands trusted small told sealed (Misreads h) = misreads_honest (trusted.ends h.aimed.fit) small told sealed h
 
-pub first_honest_on : (e : Errand) → IsTrusted e → (now : ℕ) → now < 2 ^ 64 → Follows e.clock now → (w : Walk) (words : List ℕ) (asked : ℕ) → w.want ≡ Nothing → w.gate.done ≡ phase_number First → w.sealed ≡ e.sealed →
+pub first_honest_on : (e : CallContext) → IsTrusted e → (now : ℕ) → now < 2 ^ 64 → Follows e.clock now → (w : Workspace) (words : List ℕ) (asked : ℕ) → w.want ≡ Nothing → w.gate.done ≡ phase_number First → w.sealed ≡ e.sealed →
     StruckInFirst e w (Some words) asked →
     ActsWell e First (asked + weighed (act_in (given_for e First w.wanted) now First w.place.index w words)) (honest (act_in (given_for e First w.wanted) now First w.place.index w words))
 first_honest_on e trusted now small told w words asked nothing gate sealed h =
     honest_stands e now w words asked nothing gate h.space h.second trusted small told sealed h.stands
 
-pub first_laws : (e : Errand) → IsTrusted e → PhaseLaws e First
+pub first_laws : (e : CallContext) → IsTrusted e → PhaseLaws e First
 first_laws e trusted = record {
   moved = λ w lent steps asked index h k. first_moved e w lent steps asked index h;
   struck = λ now small told w words steps asked n y nothing h k s. first_struck e trusted now small told w words steps asked n y nothing h k s;

@@ -26,13 +26,13 @@ use Rattle.sei_pass.specs.State.{PassState, new_pass}
 use Rattle.sei_pass.specs.Steps.{machine_of}
 use Rattle.sei_traverse.specs.declared.turned.Want.{Want}
 use Rattle.sei_traverse.specs.declared.turned.Want.TheVariants.{Nothing}
-use Rattle.sei_traverse.specs.declared.walk.Ending.{Ending}
-use Rattle.sei_traverse.specs.declared.walk.Ending.TheVariants.{Leads, Aborts}
-use Rattle.sei_traverse.specs.declared.walk.Walk.{Walk}
+use Rattle.sei_traverse.specs.declared.workspace.Ending.{Ending}
+use Rattle.sei_traverse.specs.declared.workspace.Ending.TheVariants.{Leads, Aborts}
+use Rattle.sei_traverse.specs.declared.workspace.Workspace.{Workspace}
 use Rattle.sei_traverse.specs.Acts.{Acted, acted, ends, at, closed_to, closes}
 use Rattle.sei_traverse.specs.Comes.{at_time}
-use Rattle.sei_traverse.specs.Errand.{Errand, first_setting, first_start, Whole}
-use Rattle.sei_traverse.specs.Facts.{Wanted, closing_want}
+use Rattle.sei_traverse.specs.CallContext.{CallContext, first_setting, first_start, Whole}
+use Rattle.sei_traverse.specs.FaultInvariant.{Wanted, closing_want}
 use Rattle.sei_traverse.proofs.ClosesNext.ClosesNext.{Stays, Closes}
 use Rattle.sei_traverse.specs.Phases.{undone_to, restore_tree}
 use Rattle.sei_traverse.specs.Struck.{IsNoted, IsAimed, WasHonest, WasMisread, pending, On, RestoreStruck, SecondStruck, ComesOn}
@@ -40,14 +40,14 @@ use Rattle.sei_traverse.specs.Struck.RestoreStruck.{Restorable, Misread, Damaged
 use Rattle.sei_traverse.specs.Struck.SecondStruck.{Good, Misread as MisreadOn, Damaged as DamagedOn}
 use Rattle.sei_traverse.specs.Trusted.{IsTrusted}
 use Rattle.sei_traverse.specs.Unstruck.{SecondIsNew, InRestore}
-use Rattle.sei_traverse.proofs.Closes.{closed, closes_in_turn}
+use Rattle.sei_traverse.proofs.Closes.{closed, closes_in_step}
 use Rattle.sei_traverse.proofs.PhaseLaws.{lent_in, LeadsWell, EndsRight, ActsWell, PhaseLaws}
 use Rattle.sei_traverse.proofs.PhaseLaws.LeadsWell.{Onward}
 use Rattle.sei_traverse.proofs.SmallNotes.{small_whole}
 
 -- An act by its end.
 
-module _ (e : Errand) (phase : Phase) (w : Walk) (words : List ℕ) (asked : ℕ) where
+module _ (e : CallContext) (phase : Phase) (w : Workspace) (words : List ℕ) (asked : ℕ) where
   -- where no phase is closed, only the end is to be shown
   pub acts_well : (ending : Ending) → w.want ≡ Nothing → w.gate.done ≡ phase_number phase → EndsRight e phase w words asked ending → ActsWell e phase asked (acted w words ending)
   acts_well ending nothing gate right = record {
@@ -63,7 +63,7 @@ module _ (e : Errand) (phase : Phase) (w : Walk) (words : List ℕ) (asked : ℕ
 
     module _ (nothing : w.want ≡ Nothing) (gate : w.gate.done ≡ phase_number phase) where
       closed_well : (yes : Bool) →
-          Always (ActsWell e phase asked) (closed_to w words (λ (v : Walk). ends (record v { want = Nothing }) words (Leads to)) (yes, if yes then risen w.gate.done else w.gate.done))
+          Always (ActsWell e phase asked) (closed_to w words (λ (v : Workspace). ends (record v { want = Nothing }) words (Leads to)) (yes, if yes then risen w.gate.done else w.gate.done))
       closed_well true = closed_acts
       closed_well false = acts_well (Aborts (Gate w.gate.done)) nothing gate tt
 
@@ -71,21 +71,21 @@ module _ (e : Errand) (phase : Phase) (w : Walk) (words : List ℕ) (asked : ℕ
       pub closes_well : Always (ActsWell e phase asked) (closes phase w words Nothing to)
       closes_well = λ yes. closed_well yes
 
--- Walks with the same first pass.
+-- Workspaces with the same first pass.
 
-pub record IsLike (w v : Walk) : Type 0 where
+pub record IsLike (w v : Workspace) : Type 0 where
   pub wanted : v.wanted ≡ w.wanted
   pub first : v.first ≡ w.first
   pub first_log : v.first_log ≡ w.first_log
   pub notes : v.notes ≡ w.notes
 
-pub moved_like : (w : Walk) (to : Place) → IsLike w (record w { place = to })
+pub moved_like : (w : Workspace) (to : Place) → IsLike w (record w { place = to })
 moved_like w to = record { wanted = refl; first = refl; first_log = refl; notes = refl }
 
-pub closed_like : (w : Walk) (to : Place) → IsLike w (record (closed w) { place = to })
+pub closed_like : (w : Workspace) (to : Place) → IsLike w (record (closed w) { place = to })
 closed_like w to = record { wanted = refl; first = refl; first_log = refl; notes = refl }
 
-module _ (e : Errand) (w v : Walk) (like : IsLike w v) where
+module _ (e : CallContext) (w v : Workspace) (like : IsLike w v) where
   pub aimed_like : IsAimed e w → IsAimed e v
   aimed_like a = record { fit = a.fit; wanted = like.wanted ∙ a.wanted }
 
@@ -135,12 +135,12 @@ pub rises_distinct : (log : List Change) → RisesFrom 0 log → IsDistinct log
 rises_distinct log rises = record { distinct = rises_apart log 0 rises }
 
 -- so it is in the log of an honest first pass
-pub honest_distinct : (e : Errand) (w : Walk) (end : Machine) (asked : ℕ) → WasHonest e w end asked → IsDistinct w.first_log.items
+pub honest_distinct : (e : CallContext) (w : Workspace) (end : Machine) (asked : ℕ) → WasHonest e w end asked → IsDistinct w.first_log.items
 honest_distinct e w end asked h =
     subst (λ (l : Kept Change). IsDistinct l.items) (sym h.first.first_log) (rises_distinct end.log.items h.whole.rising)
 
 -- what a whole first pass keeps
-pub whole_keeps : (e : Errand) (time made : ℕ) (end : Machine) → Whole e time made end → Keeps e.taken end.log.items end.words
+pub whole_keeps : (e : CallContext) (time made : ℕ) (end : Machine) → Whole e time made end → Keeps e.taken end.log.items end.words
 whole_keeps e time made end whole =
     subst (λ (x : After). Keeps e.taken x.machine.log.items x.machine.words) whole.run.halts (keeps (at_time (first_setting e) time) (first_start e) refl made)
 
@@ -228,14 +228,14 @@ module _ (taken : List ℕ) (log : List Change) (distinct : IsDistinct log) wher
 
 -- The clean case.
 
-record RestoreFacts (e : Errand) (w : Walk) (words : List ℕ) (asked : ℕ) : Type 0 where
+record RestoreInvariant (e : CallContext) (w : Workspace) (words : List ℕ) (asked : ℕ) : Type 0 where
   end : Machine
   was : WasHonest e w end asked
   undoing : Undoing e.taken w.first_log.items words (length w.first_log.items - w.place.index)
   real : (p : ℕ) (c : Change) → Stands w.first_log.items p c → c.was ≢ c.becomes
 
-restore_facts : (e : Errand) (w : Walk) (words : List ℕ) (steps asked : ℕ) → IsAimed e w → InRestore e w (Some words) steps asked → RestoreFacts e w words asked
-restore_facts e w words steps asked aimed i =
+restore_invariant : (e : CallContext) (w : Workspace) (words : List ℕ) (steps asked : ℕ) → IsAimed e w → InRestore e w (Some words) steps asked → RestoreInvariant e w words asked
+restore_invariant e w words steps asked aimed i =
     let kept : Keeps e.taken i.end.log.items i.end.words = whole_keeps e i.time i.made i.end i.whole in
     let from_end : Undoing e.taken i.end.log.items (restored i.end.log.items i.end.words w.place.index) (length i.end.log.items - w.place.index) =
     undone_so e.taken i.end.log.items (rises_distinct i.end.log.items i.whole.rising) i.end.words kept w.place.index i.index in
@@ -260,12 +260,12 @@ not_back : (word : Option ℕ) (c : Change) → c.was ≢ c.becomes → word ≡
 not_back word c real is back = real (same_Some c.was c.becomes (sym back ∙ is))
 
 -- what an honest first pass noted is small
-small_was : (e : Errand) (w : Walk) (end : Machine) (asked : ℕ) → WasHonest e w end asked → IsNoted e w.notes.now
+small_was : (e : CallContext) (w : Workspace) (end : Machine) (asked : ℕ) → WasHonest e w end asked → IsNoted e w.notes.now
 small_was e w end asked was = small_whole e was.time was.made end w.notes was.whole was.first.notes
 
 -- A move to another place of the restoration.
 
-module _ (e : Errand) (w : Walk) (words : List ℕ) (asked : ℕ) (f : RestoreFacts e w words asked) (index : ℕ) where
+module _ (e : CallContext) (w : Workspace) (words : List ℕ) (asked : ℕ) (f : RestoreInvariant e w words asked) (index : ℕ) where
   move_back : length w.first_log.items - w.place.index ≤ length w.first_log.items - index → RestoreStruck e (record w { place = at Restore index }) words asked
   move_back h =
       let left = length w.first_log.items - w.place.index in
@@ -288,19 +288,19 @@ module _ (e : Errand) (w : Walk) (words : List ℕ) (asked : ℕ) (f : RestoreFa
     | inr h ↦ move_back h
   ]
 
-new_like : (e : Errand) (w : Walk) (to : Place) → SecondIsNew e w → SecondIsNew e (record w { place = to })
+new_like : (e : CallContext) (w : Workspace) (to : Place) → SecondIsNew e w → SecondIsNew e (record w { place = to })
 new_like e w to n = record { second = n.second; second_log = n.second_log }
 
-restore_moved : (e : Errand) (w : Walk) (lent : Option (List ℕ)) (steps asked index : ℕ) → InRestore e w lent steps asked → IsAimed e w →
+restore_moved : (e : CallContext) (w : Workspace) (lent : Option (List ℕ)) (steps asked index : ℕ) → InRestore e w lent steps asked → IsAimed e w →
     (SecondIsNew e (record w { place = at Restore index })) × On lent (λ words. RestoreStruck e (record w { place = at Restore index }) words asked)
 restore_moved e w None steps asked index i aimed = absurd (let never : None ≡ Some _ = i.words in let z : ⊥ = cc in z)
 restore_moved e w (Some words) steps asked index i aimed =
-    (new_like e w (at Restore index) i.second, move_to e w words asked (restore_facts e w words steps asked aimed i) index)
+    (new_like e w (at Restore index) i.second, move_to e w words asked (restore_invariant e w words steps asked aimed i) index)
 
 -- The undoing of one change.
 
 -- whatever is answered, some word is written, or the act aborts
-module _ (P : Acted → Type 0) (w : Walk) (words : List ℕ) (index : ℕ) (c : Change)
+module _ (P : Acted → Type 0) (w : Workspace) (words : List ℕ) (index : ℕ) (c : Change)
     (wrote : (a v : ℕ) → P (acted w (slice_set words a v) (Leads (at Restore (index + 1))))) (aborts : (cause : AbortCause) → P (acted w words (Aborts cause))) where
   undo_found : (a was : ℕ) (o : Option ℕ) → Always P (bound (undo_word words a was o) (undone_to w index))
   undo_found a was None = aborts _
@@ -310,7 +310,7 @@ module _ (P : Acted → Type 0) (w : Walk) (words : List ℕ) (index : ℕ) (c :
   undo_always = λ a was. undo_found a was (slice_get words a)
 
 -- without a strike, the old word is written at the address
-module _ (P : Acted → Type 0) (w : Walk) (words : List ℕ) (index : ℕ) (c : Change)
+module _ (P : Acted → Type 0) (w : Workspace) (words : List ℕ) (index : ℕ) (c : Change)
     (wrote : P (acted w (slice_set words c.address c.was) (Leads (at Restore (index + 1))))) (aborts : (cause : AbortCause) → P (acted w words (Aborts cause))) where
   honest_found : (o : Option ℕ) → P (honest (bound (undo_word words c.address c.was o) (undone_to w index)))
   honest_found None = aborts _
@@ -320,8 +320,8 @@ module _ (P : Acted → Type 0) (w : Walk) (words : List ℕ) (index : ℕ) (c :
   undo_honest = honest_found (slice_get words c.address)
 
 -- the change at the place that is next
-module _ (e : Errand) (w : Walk) (words : List ℕ) (asked more : ℕ) (le : asked ≤ more) (k : ℕ) (c : Change) (here : Stands w.first_log.items k c) (last : length w.first_log.items - w.place.index ≡ suc k) where
-  abbrev next : Walk
+module _ (e : CallContext) (w : Workspace) (words : List ℕ) (asked more : ℕ) (le : asked ≤ more) (k : ℕ) (c : Change) (here : Stands w.first_log.items k c) (last : length w.first_log.items - w.place.index ≡ suc k) where
+  abbrev next : Workspace
   next = record w { place = at Restore (w.place.index + 1) }
 
   next_left : length w.first_log.items - (w.place.index + 1) ≡ k
@@ -342,7 +342,7 @@ module _ (e : Errand) (w : Walk) (words : List ℕ) (asked more : ℕ) (le : ask
       (λ back. other (sym (get_set_other words c.address d.address c.was
       (λ i. let same = distinct.distinct place k d c s here i in omega (arith, same, past, last))) ∙ back))
 
-  module _ (f : RestoreFacts e w words asked) where
+  module _ (f : RestoreInvariant e w words asked) where
     damaged : (a v : ℕ) → slice_get (slice_set words a v) c.address ≢ Some c.was → RestoreStruck e next (slice_set words a v) more
     damaged a v other =
         Damaged f.end (honest_like e w next (moved_like w (at Restore (w.place.index + 1))) f.end asked more le f.was) k c here (omega (arith, next_left)) other
@@ -366,8 +366,8 @@ module _ (e : Errand) (w : Walk) (words : List ℕ) (asked more : ℕ) (le : ask
 
 -- Into the second pass.
 
-module _ (e : Errand) (w : Walk) (words : List ℕ) (asked more : ℕ) (le : asked ≤ more) (new : SecondIsNew e w) (all : length w.first_log.items ≤ w.place.index) where
-  abbrev begun : Walk
+module _ (e : CallContext) (w : Workspace) (words : List ℕ) (asked more : ℕ) (le : asked ≤ more) (new : SecondIsNew e w) (all : length w.first_log.items ≤ w.place.index) where
+  abbrev begun : Workspace
   begun = record (closed w) { place = at Second 0 }
 
   -- the second pass begins on the words that are there
@@ -389,7 +389,7 @@ module _ (e : Errand) (w : Walk) (words : List ℕ) (asked more : ℕ) (le : ask
 
 -- The act.
 
-module _ (e : Errand) (w : Walk) (words : List ℕ) (asked more : ℕ) (le : asked ≤ more) (nothing : w.want ≡ Nothing) (gate : w.gate.done ≡ phase_number Restore) (new : SecondIsNew e w) where
+module _ (e : CallContext) (w : Workspace) (words : List ℕ) (asked more : ℕ) (le : asked ≤ more) (nothing : w.want ≡ Nothing) (gate : w.gate.done ≡ phase_number Restore) (new : SecondIsNew e w) where
   aborts_well : (cause : AbortCause) → ActsWell e Restore more (acted w words (Aborts cause))
   aborts_well cause = acts_well e Restore w words more (Aborts cause) nothing gate tt
 
@@ -404,7 +404,7 @@ module _ (e : Errand) (w : Walk) (words : List ℕ) (asked more : ℕ) (le : ask
   undoes_at = length w.first_log.items - 1 - w.place.index
 
   -- under a strike
-  struck_act : RestoreFacts e w words asked → (b : Bool) → nat_lt w.place.index (length w.first_log.items) ≡ b →
+  struck_act : RestoreInvariant e w words asked → (b : Bool) → nat_lt w.place.index (length w.first_log.items) ≡ b →
       Always (ActsWell e Restore more) (if b then bound (undo_at words (slice_get w.first_log.items undoes_at)) (undone_to w w.place.index) else closes Restore w words Nothing (at Second 0))
   struck_act f true h =
       let below = ltb-true w.place.index (length w.first_log.items) h in
@@ -428,15 +428,15 @@ module _ (e : Errand) (w : Walk) (words : List ℕ) (asked more : ℕ) (le : ask
       (goes_well (slice_set words c.0.address c.0.was) (honest_next e w words asked more le undoes_at c.0 c.1 (omega (arith, below)) r))
       aborts_well)
   honest_act r false h =
-      subst (ActsWell e Restore more) (sym (closes_in_turn Restore w words (at Second 0) gate))
+      subst (ActsWell e Restore more) (sym (closes_in_step Restore w words (at Second 0) gate))
       (closed_acts e Restore w words more (at Second 0) refl (ap risen gate) (second_well (ltb-false w.place.index (length w.first_log.items) h) r))
 
-pub restore_laws : (e : Errand) → IsTrusted e → PhaseLaws e Restore
+pub restore_laws : (e : CallContext) → IsTrusted e → PhaseLaws e Restore
 restore_laws e trusted = record {
   moved = λ w lent steps asked index clean knows. restore_moved e w lent steps asked index clean knows;
   struck = λ now small told w words steps asked n y nothing clean knows run.
       always_struck (ActsWell e Restore (asked + n)) (restore_tree w.place.index w words) y n
-      (struck_act e w words asked (asked + n) (omega arith) nothing clean.is.gate clean.second (restore_facts e w words steps asked knows clean)
+      (struck_act e w words asked (asked + n) (omega arith) nothing clean.is.gate clean.second (restore_invariant e w words steps asked knows clean)
       (nat_lt w.place.index (length w.first_log.items)) refl) run;
   honest_on = λ now small told w words asked nothing gate sealed stands.
       honest_act e w words asked (asked + weighed (restore_tree w.place.index w words)) (omega arith) nothing gate stands.0 stands.1

@@ -39,13 +39,13 @@ use Rattle.sei_pass.specs.declared.given.Sealed.{Sealed}
 use Rattle.sei_pass.specs.declared.given.Which.TheVariants.{Making, Reading}
 use Rattle.sei_traverse.specs.declared.turned.Want.{Want}
 use Rattle.sei_traverse.specs.declared.turned.Want.TheVariants.{Nothing}
-use Rattle.sei_traverse.specs.declared.walk.Ending.TheVariants.{Leads, Aborts}
-use Rattle.sei_traverse.specs.declared.walk.Walk.{Walk}
+use Rattle.sei_traverse.specs.declared.workspace.Ending.TheVariants.{Leads, Aborts}
+use Rattle.sei_traverse.specs.declared.workspace.Workspace.{Workspace}
 use Rattle.sei_traverse.specs.Acts.{Acted, acted, at, closed_to, closes}
 use Rattle.sei_traverse.specs.Acts.{ends as ends_act}
 use Rattle.sei_traverse.specs.Comes.{renoted}
-use Rattle.sei_traverse.specs.Errand.{Errand, first_start}
-use Rattle.sei_traverse.specs.Facts.{Wanted}
+use Rattle.sei_traverse.specs.CallContext.{CallContext, first_start}
+use Rattle.sei_traverse.specs.FaultInvariant.{Wanted}
 use Rattle.sei_traverse.proofs.ClosesNext.ClosesNext.{Stays, Closes}
 use Rattle.sei_traverse.specs.PassActs.{asked_behind, second_machine, with_second, second_from, second_to}
 use Rattle.sei_traverse.specs.Given.{setting_in}
@@ -54,7 +54,7 @@ use Rattle.sei_traverse.specs.Struck.SecondStruck.{Good, Misread, Damaged, Struc
 use Rattle.sei_traverse.specs.Struck.CompareStruck.{Fine, Doubt}
 use Rattle.sei_traverse.specs.Trusted.{IsTrusted, second_setting}
 use Rattle.sei_traverse.specs.Unstruck.{InSecond}
-use Rattle.sei_traverse.proofs.Closes.{closed, closes_in_turn, second_behind}
+use Rattle.sei_traverse.proofs.Closes.{closed, closes_in_step, second_behind}
 use Rattle.sei_traverse.proofs.GoodAnswers.{good_answers}
 use Rattle.sei_traverse.proofs.PhaseLaws.{given_for, ActsWell, PhaseLaws}
 use Rattle.sei_traverse.proofs.PhaseLaws.LeadsWell.{Onward}
@@ -177,21 +177,21 @@ struck_off those g i m y n (Wrong a word was v here room is or asks) s =
 -- One honest step more.
 
 -- the step of the second pass, whatever the clock answers
-abbrev on_step : Errand → Walk → List ℕ → Tree After
+abbrev on_step : CallContext → Workspace → List ℕ → Tree After
 on_step e w words = step_tree (setting_on e w.wanted) w.place.index (second_machine w words)
 
 -- the act's own step is that one
-step_is : (e : Errand) (now : ℕ) (w : Walk) (words : List ℕ) → w.sealed ≡ e.sealed →
+step_is : (e : CallContext) (now : ℕ) (w : Workspace) (words : List ℕ) → w.sealed ≡ e.sealed →
     step_tree (setting_in (given_for e Second w.wanted) Reading w.sealed now) w.place.index (second_machine w words) ≡ on_step e w words
 step_is e now w words is =
     ap (λ (s : Sealed). step_tree (setting_in (given_for e Second w.wanted) Reading s now) w.place.index (second_machine w words)) is
     ∙ timeless_again (setting_in (given_for e Second w.wanted) Making e.sealed 0) now w.place.index (second_machine w words)
 
--- the walk whose second pass came to this machine, with another gate, want and place
-abbrev behind : Walk → Machine → ℕ → Want → Place → Walk
+-- the workspace whose second pass came to this machine, with another gate, want and place
+abbrev behind : Workspace → Machine → ℕ → Want → Place → Workspace
 behind w m done want to = record (with_second w m) { gate = record { done = done }; want = want; place = to }
 
-module _ (e : Errand) (w : Walk) (m : Machine) (done : ℕ) (want : Want) (to : Place) (asked later : ℕ) (le : asked ≤ later) (kept : m.notes ≡ w.notes) where
+module _ (e : CallContext) (w : Workspace) (m : Machine) (done : ℕ) (want : Want) (to : Place) (asked later : ℕ) (le : asked ≤ later) (kept : m.notes ≡ w.notes) where
   -- the first pass is what it was
   was_honest : (end : Machine) → WasHonest e w end asked → WasHonest e (behind w m done want to) end later
   was_honest end h = record {
@@ -215,7 +215,7 @@ module _ (e : Errand) (w : Walk) (m : Machine) (done : ℕ) (want : Want) (to : 
     questions = omega (arith, h.questions, le);
   }
 
-module _ (e : Errand) (w : Walk) (words : List ℕ) where
+module _ (e : CallContext) (w : Workspace) (words : List ℕ) where
   abbrev on_end : After
   on_end = honest (on_step e w words)
 
@@ -223,7 +223,7 @@ module _ (e : Errand) (w : Walk) (words : List ℕ) where
   notes_here = always_honest (λ (y : After). y.machine.notes ≡ w.notes) (on_step e w words) (notes_kept (setting_on e w.wanted) w.place.index (second_machine w words) refl)
 
   module _ (done : ℕ) (want : Want) (to : Place) (asked later : ℕ) (le : asked + (weighed (on_step e w words) + asked_behind on_end.outcome) ≤ later) (going : IsGoing on_end.outcome) where
-    abbrev there : Walk
+    abbrev there : Workspace
     there = behind w on_end.machine done want to
 
     -- the run on these words has come one statement on
@@ -259,7 +259,7 @@ module _ (e : Errand) (w : Walk) (words : List ℕ) where
 
 -- The comparison behind it.
 
-module _ (e : Errand) (trusted : IsTrusted e) (v : Walk) (words : List ℕ) (asked : ℕ) where
+module _ (e : CallContext) (trusted : IsTrusted e) (v : Workspace) (words : List ℕ) (asked : ℕ) where
   -- where the pass was honest on the words that were taken, all is well; else nothing was compared yet
   compare_stands : v.place.index ≡ 0 → SecondStruck e v words Halted asked → CompareStruck e v words asked
   compare_stands zero_at (Good small n comes before) = Fine (good_answers e trusted v words asked n small comes before)
@@ -269,9 +269,9 @@ module _ (e : Errand) (trusted : IsTrusted e) (v : Walk) (words : List ℕ) (ask
 
 -- What an act ends with is as it may be.
 
-module _ (e : Errand) (trusted : IsTrusted e) (w : Walk) (m : Machine) (later : ℕ) (nothing : w.want ≡ Nothing) (right : w.gate.done ≡ phase_number Second) where
+module _ (e : CallContext) (trusted : IsTrusted e) (w : Workspace) (m : Machine) (later : ℕ) (nothing : w.want ≡ Nothing) (right : w.gate.done ≡ phase_number Second) where
   -- nothing is wanted
-  wants_none : (lent : Option (List ℕ)) (v : Walk) → Wanted e v lent later w.want
+  wants_none : (lent : Option (List ℕ)) (v : Workspace) → Wanted e v lent later w.want
   wants_none lent v = subst (λ (k : Want). Wanted e v lent later k) (sym nothing) tt
 
   -- the next statement
@@ -301,13 +301,13 @@ module _ (e : Errand) (trusted : IsTrusted e) (w : Walk) (m : Machine) (later : 
       ActsWell e Second later (honest (second_from (with_second w m) m.words o))
   ends_well (Next i) f = next_well i (f w.gate.done w.want (at Second i) tt)
   ends_well Halted f =
-      subst (ActsWell e Second later) (sym (closes_in_turn Second (with_second w m) m.words (at Compare 0) right))
+      subst (ActsWell e Second later) (sym (closes_in_step Second (with_second w m) m.words (at Compare 0) right))
       (halt_well (f (risen w.gate.done) Nothing (at Compare 0) tt))
   ends_well (Bad cause) f = bad_well cause
 
 -- A strike in the closing of a phase: the phase is closed all the same, or it is not.
 
-module _ (phase : Phase) (w : Walk) (words : List ℕ) (to : Place) (y : Acted) where
+module _ (phase : Phase) (w : Workspace) (words : List ℕ) (to : Place) (y : Acted) where
   abbrev Closings : Type 0
   Closings = (y ≡ acted (closed w) words (Leads to)) ⊎ (y ≡ acted (record w { gate = record { done = w.gate.done } }) words (Aborts (Gate w.gate.done)))
 
@@ -333,9 +333,9 @@ module _ (phase : Phase) (w : Walk) (words : List ℕ) (to : Place) (y : Acted) 
 
 -- From a clean traversal.
 
-module _ (e : Errand) (w : Walk) (lent : Option (List ℕ)) (steps asked : ℕ) (h : InSecond e w lent steps asked) (aimed : IsAimed e w) where
+module _ (e : CallContext) (w : Workspace) (lent : Option (List ℕ)) (steps asked : ℕ) (h : InSecond e w lent steps asked) (aimed : IsAimed e w) where
   -- its first pass was honest
-  clean_was : (v : Walk) → IsAimed e v → v.first ≡ w.first → v.first_log ≡ w.first_log → v.notes ≡ w.notes → WasHonest e v h.end asked
+  clean_was : (v : Workspace) → IsAimed e v → v.first ≡ w.first → v.first_log ≡ w.first_log → v.notes ≡ w.notes → WasHonest e v h.end asked
   clean_was v a first log notes = record {
     aimed = a;
     time = h.time;
@@ -351,7 +351,7 @@ module _ (e : Errand) (w : Walk) (lent : Option (List ℕ)) (steps asked : ℕ) 
       subst (λ (x : After). SameOff x.machine.log.items x.machine.words e.taken) h.comes
       (keeps (second_setting e) (renoted h.end.notes (first_start e)) refl h.n).off
 
-  -- the second pass is honest on the words that were taken, by the walk's notes
+  -- the second pass is honest on the words that were taken, by the workspace's notes
   clean_comes : (words : List ℕ) → lent ≡ Some words → ComesOn e w e.taken words (Next w.place.index) h.n
   clean_comes words are =
       ap (λ (b : ℕ). after (setting_on e b) (start_on e e.taken w.notes) h.n) aimed.wanted
@@ -379,7 +379,7 @@ module _ (e : Errand) (w : Walk) (lent : Option (List ℕ)) (steps asked : ℕ) 
 
 -- An honest act behind a strike.
 
-module _ (e : Errand) (trusted : IsTrusted e) (now : ℕ) (w : Walk) (words : List ℕ) (asked : ℕ) (nothing : w.want ≡ Nothing) (right : w.gate.done ≡ phase_number Second)
+module _ (e : CallContext) (trusted : IsTrusted e) (now : ℕ) (w : Workspace) (words : List ℕ) (asked : ℕ) (nothing : w.want ≡ Nothing) (right : w.gate.done ≡ phase_number Second)
     (s : SecondStruck e w words (Next w.place.index) asked) where
   abbrev WellBy : Tree After → Type 0
   WellBy t = ActsWell e Second (asked + weighed (bound t (second_to w))) (honest (bound t (second_to w)))
@@ -399,7 +399,7 @@ module _ (e : Errand) (trusted : IsTrusted e) (now : ℕ) (w : Walk) (words : Li
 
 -- An act of a clean traversal in which a strike falls.
 
-module _ (e : Errand) (trusted : IsTrusted e) (now : ℕ) (w : Walk) (words : List ℕ) (steps asked n : ℕ) (y : Acted) (nothing : w.want ≡ Nothing)
+module _ (e : CallContext) (trusted : IsTrusted e) (now : ℕ) (w : Workspace) (words : List ℕ) (steps asked n : ℕ) (y : Acted) (nothing : w.want ≡ Nothing)
     (h : InSecond e w (Some words) steps asked) (aimed : IsAimed e w) where
   right : w.gate.done ≡ phase_number Second
   right = h.is.gate
@@ -451,7 +451,7 @@ module _ (e : Errand) (trusted : IsTrusted e) (now : ℕ) (w : Walk) (words : Li
       struck_case (struck_bound (on_step e w words) (second_to w) y n
       (subst (λ (t : Tree After). StruckRun (bound t (second_to w)) y n) (step_is e now w words h.is.sealed) s))
 
-pub second_laws : (e : Errand) → IsTrusted e → PhaseLaws e Second
+pub second_laws : (e : CallContext) → IsTrusted e → PhaseLaws e Second
 second_laws e trusted = record {
   moved = λ w lent steps asked index h aimed. second_moved e w lent steps asked h aimed index;
   struck = λ now small told w words steps asked n y nothing h aimed s. struck_acts e trusted now w words steps asked n y nothing h aimed s;

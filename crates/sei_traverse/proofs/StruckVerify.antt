@@ -23,11 +23,11 @@ use Rattle.sei_restore.specs.Undoing.{LeadsTo}
 use Rattle.sei_stmt.specs.Handling.{refilled}
 use Rattle.sei_stmt.specs.Machine.{Machine, After}
 use Rattle.sei_traverse.specs.declared.turned.Want.TheVariants.{Nothing}
-use Rattle.sei_traverse.specs.declared.walk.Ending.TheVariants.{Leads, Aborts}
-use Rattle.sei_traverse.specs.declared.walk.Walk.{Walk}
+use Rattle.sei_traverse.specs.declared.workspace.Ending.TheVariants.{Leads, Aborts}
+use Rattle.sei_traverse.specs.declared.workspace.Workspace.{Workspace}
 use Rattle.sei_traverse.specs.Acts.{acted, ends, at, closes}
 use Rattle.sei_traverse.specs.Comes.{at_time}
-use Rattle.sei_traverse.specs.Errand.{Errand, first_setting, first_start, Whole}
+use Rattle.sei_traverse.specs.CallContext.{CallContext, first_setting, first_start, Whole}
 use Rattle.sei_traverse.specs.Phases.{reply_of, word_to, copy_bytes, wire_to, verify_copy, verify_tree}
 use Rattle.sei_traverse.proofs.AlikeLaws.{applied_alike}
 use Rattle.sei_traverse.specs.Struck.{IsAimed, IsHonestResult, IsDoubted, WordsStruck, VerifyStruck, On}
@@ -43,7 +43,7 @@ use Rattle.sei_traverse.proofs.StruckEdges.{answers_at, on_map, not_less, no_les
 
 -- All is well already.
 
-module _ (e : Errand) (w : Walk) (words : List ℕ) (asked more : ℕ) (le : asked ≤ more) (nothing : w.want ≡ Nothing) (gate : w.gate.done ≡ 6) (answers : IsHonestResult e w words asked) (outputs : w.first.bytes.items ≡ reply_of w) where
+module _ (e : CallContext) (w : Workspace) (words : List ℕ) (asked more : ℕ) (le : asked ≤ more) (nothing : w.want ≡ Nothing) (gate : w.gate.done ≡ 6) (answers : IsHonestResult e w words asked) (outputs : w.first.bytes.items ≡ reply_of w) where
   -- an act that leads to another place of the phase
   fine_leads : (wire : Kept ℕ) (index : ℕ) → ActsWell e Verify more (acted (record w { wire = wire }) words (Leads (at Verify index)))
   fine_leads wire index = leads_well e Verify more (record w { wire = wire }) words (at Verify index) nothing gate
@@ -118,7 +118,7 @@ leads_applied before [] words l = sym l
 leads_applied before (c ∷ rest) words l = leads_applied (slice_set before c.address c.becomes) rest words l.1
 
 -- the log of a whole first pass, applied to the words that were taken, gives its words
-whole_applied : (e : Errand) (time made : ℕ) (end : Machine) → Whole e time made end → applied end.log.items e.taken ≡ end.words
+whole_applied : (e : CallContext) (time made : ℕ) (end : Machine) → Whole e time made end → applied end.log.items e.taken ≡ end.words
 whole_applied e time made end whole =
     leads_applied e.taken end.log.items end.words
     (subst (λ (x : After). LeadsTo e.taken x.machine.log.items x.machine.words) whole.run.halts (leads (at_time (first_setting e) time) (first_start e) refl made))
@@ -131,7 +131,7 @@ stands_within log place c st = elim (lt_or place (length log)) [
 ]
 
 -- where each word was read back, the words are those of the first pass
-all_read : (e : Errand) → IsTrusted e → (w : Walk) (words : List ℕ) (asked : ℕ) → IsDoubted e w words asked → w.first.bytes.items ≡ reply_of w → length w.second_log.items ≤ w.place.index → IsHonestResult e w words asked
+all_read : (e : CallContext) → IsTrusted e → (w : Workspace) (words : List ℕ) (asked : ℕ) → IsDoubted e w words asked → w.first.bytes.items ≡ reply_of w → length w.second_log.items ≤ w.place.index → IsHonestResult e w words asked
 all_read e trusted w words asked d outputs le =
     let there : applied w.second_log.items words ≡ words =
     applied_there w.second_log.items words (λ place c st. d.read place c (omega (arith, le, stands_within w.second_log.items place c st)) st) in
@@ -157,7 +157,7 @@ read_more log words index o here holds read place c lt st = elim (lt_or place in
 outcome_holds : (words : List ℕ) (o : Option Change) → word_outcome words o ≡ Ok true → (c : Change) → o ≡ Some c → slice_get words c.address ≡ Some c.becomes
 outcome_holds words o same c is = word_outcome-new words c (sym (ap (word_outcome words) is) ∙ same)
 
-module _ (e : Errand) (w : Walk) (words : List ℕ) (asked more : ℕ) (le : asked ≤ more) (nothing : w.want ≡ Nothing) (gate : w.gate.done ≡ 6) (outputs : w.first.bytes.items ≡ reply_of w) (d : IsDoubted e w words asked) where
+module _ (e : CallContext) (w : Workspace) (words : List ℕ) (asked more : ℕ) (le : asked ≤ more) (nothing : w.want ≡ Nothing) (gate : w.gate.done ≡ 6) (outputs : w.first.bytes.items ≡ reply_of w) (d : IsDoubted e w words asked) where
   doubt_leads : word_outcome words (slice_get w.second_log.items w.place.index) ≡ Ok true → ActsWell e Verify more (acted w words (Leads (at Verify (w.place.index + 1))))
   doubt_leads same = leads_well e Verify more w words (at Verify (w.place.index + 1)) nothing gate
       (Onward gate (record {
@@ -201,7 +201,7 @@ module _ (e : Errand) (w : Walk) (words : List ℕ) (asked more : ℕ) (le : ask
 
 -- The phase.
 
-words_honest : (e : Errand) → IsTrusted e → (w : Walk) (words : List ℕ) (asked more : ℕ) → asked ≤ more → w.want ≡ Nothing → w.gate.done ≡ 6 → w.first.bytes.items ≡ reply_of w → WordsStruck e w words asked →
+words_honest : (e : CallContext) → IsTrusted e → (w : Workspace) (words : List ℕ) (asked more : ℕ) → asked ≤ more → w.want ≡ Nothing → w.gate.done ≡ 6 → w.first.bytes.items ≡ reply_of w → WordsStruck e w words asked →
     ActsWell e Verify more (honest (verify_tree w.place.index w words))
 words_honest e trusted w words asked more le nothing gate outputs (Fine a) = fine_honest e w words asked more le nothing gate a outputs w.place.index (nat_lt w.place.index (length w.second_log.items))
 words_honest e trusted w words asked more le nothing gate outputs (Doubt d) =
@@ -212,7 +212,7 @@ behind_both : (index n k : ℕ) → n ≡ k → nat_lt index n ≡ false → (in
 behind_both index n k same past other le = grind (arith, nat_tests)
 
 -- behind the last word and the copy, without a strike, the copy is the reply
-clean_wire : (e : Errand) (w : Walk) (lent : Option (List ℕ)) (steps asked : ℕ) → (i : InVerify e w lent steps asked) → nat_lt w.place.index (length w.second_log.items) ≡ false →
+clean_wire : (e : CallContext) (w : Workspace) (lent : Option (List ℕ)) (steps asked : ℕ) → (i : InVerify e w lent steps asked) → nat_lt w.place.index (length w.second_log.items) ≡ false →
     (w.place.index == length w.second_log.items) ≡ false → w.wire.items ≡ reply_of w
 clean_wire e w lent steps asked i past other =
     let long : length w.second_log.items ≡ length i.end.log.items = ap (λ (k : Kept Change). length k.items) i.both.second.second_log in
@@ -220,10 +220,10 @@ clean_wire e w lent steps asked i past other =
     i.copy last ∙ sym (ap (λ (p : PassState). p.bytes.items) i.both.second.second)
 
 -- both passes ended with one output
-clean_outputs : (e : Errand) (w : Walk) (lent : Option (List ℕ)) (time made : ℕ) (end : Machine) (asked : ℕ) → InBoth e w lent time made end asked → w.first.bytes.items ≡ reply_of w
+clean_outputs : (e : CallContext) (w : Workspace) (lent : Option (List ℕ)) (time made : ℕ) (end : Machine) (asked : ℕ) → InBoth e w lent time made end asked → w.first.bytes.items ≡ reply_of w
 clean_outputs e w lent time made end asked both = ap (λ (p : PassState). p.bytes.items) (both.first.first ∙ sym both.second.second)
 
-verify_moved : (e : Errand) → IsTrusted e → (w : Walk) (lent : Option (List ℕ)) (steps asked index : ℕ) → InVerify e w lent steps asked → IsAimed e w →
+verify_moved : (e : CallContext) → IsTrusted e → (w : Workspace) (lent : Option (List ℕ)) (steps asked index : ℕ) → InVerify e w lent steps asked → IsAimed e w →
     On lent (λ words. VerifyStruck e (record w { place = at Verify index }) words asked)
 verify_moved e trusted w lent steps asked index i aimed =
     on_map (λ words. IsHonestResult e w words asked) (λ words. VerifyStruck e (record w { place = at Verify index }) words asked) lent
@@ -233,7 +233,7 @@ verify_moved e trusted w lent steps asked index i aimed =
     })
     (both_answers e trusted w lent i.time i.made i.end asked aimed i.both)
 
-pub verify_laws : (e : Errand) → IsTrusted e → PhaseLaws e Verify
+pub verify_laws : (e : CallContext) → IsTrusted e → PhaseLaws e Verify
 verify_laws e trusted = record {
   moved = verify_moved e trusted;
   struck = λ now small told w words steps asked n y nothing i knows run.

@@ -24,7 +24,7 @@ use Rattle.sei_stmt.specs.Order.{finished, stage_onward, stage_after}
 use Rattle.sei_stmt.specs.Sound.{RisesFrom}
 use Rattle.sei_stmt.proofs.Public.{after_one, still_halted, halts_or_aborts, halts_or_goes_on}
 use Rattle.sei_traverse.specs.Comes.{at_time, again, Agrees, Comes, EndsAt, EndsAlways}
-use Rattle.sei_traverse.specs.Errand.{no_notes}
+use Rattle.sei_traverse.specs.CallContext.{no_notes}
 use Rattle.sei_traverse.proofs.NoteLaws.{now_kept, stage_of, untimed_before}
 
 -- the time and one step

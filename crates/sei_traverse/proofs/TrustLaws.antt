@@ -1,4 +1,4 @@
--- The errand of a sound handler is trusted, and is answered.
+-- The call context of a sound handler is trusted, and is answered.
 use Rattle.std.specs.Prelude.{slice_get}
 use Rattle.std.proofs.Common.{◌≡◌, ℕ, ◌^◌, ◌<◌, inl, inr, true, List, Option, Some, None, refl, sym, ap, ◌∙◌, subst, arith}
 use Rattle.std.proofs.lemmas.Bool.{lt-ltb, ltb-true}
@@ -18,8 +18,8 @@ use Rattle.sei_stmt.specs.Sound.Serves.{Well, Unfit}
 use Rattle.sei_stmt.proofs.Public.{halts_or_aborts, one_end, IsGoing}
 use Rattle.sei_pass.specs.Setting.{call_at}
 use Rattle.sei_traverse.specs.Comes.{renoted, renoted_end}
-use Rattle.sei_traverse.specs.declared.walk.Walk.{Walk}
-use Rattle.sei_traverse.specs.Errand.{Errand, IsErrand, first_setting, first_start, given_in}
+use Rattle.sei_traverse.specs.declared.workspace.Workspace.{Workspace}
+use Rattle.sei_traverse.specs.CallContext.{CallContext, IsCallContext, first_setting, first_start, given_in}
 use Rattle.sei_traverse.specs.Given.{has_call, has_sealed_call, call_of}
 use Rattle.sei_traverse.specs.Sound.{IsServedBy, IsModelAnswer}
 use Rattle.sei_traverse.specs.Struck.{IsHonestResult}
@@ -37,7 +37,7 @@ call_index : (parsed : ℕ → Option Parsed) (nth : Option ℕ) (p : Parsed) �
 call_index parsed None p e = absurd cc
 call_index parsed (Some n) p e = (n, refl)
 
-module _ {B : Type 0} (space : List ℕ → ℕ → Space) (Before Stands : List ℕ → B → Type 0) (answer : List ℕ → ℕ → B → ℕ → B × List ℕ) (e : Errand) (h : IsServedBy space Before Stands answer e) where
+module _ {B : Type 0} (space : List ℕ → ℕ → Space) (Before Stands : List ℕ → B → Type 0) (answer : List ℕ → ℕ → B → ℕ → B × List ℕ) (e : CallContext) (h : IsServedBy space Before Stands answer e) where
   has_called : has_sealed_call (given_in e) e.sealed ≡ true → call_of (given_in e) e.sealed ≡ Some e.call
   has_called has =
       let i = has_index (e.behavior.calls e.input) (read_of e.sealed.nth) has in
@@ -127,7 +127,7 @@ module _ {B : Type 0} (space : List ℕ → ℕ → Space) (Before Stands : List
   }
 
   -- the words that are to be entered are those of the answer
-  pub is_answered : (w : Walk) (words : List ℕ) (asked : ℕ) (a : IsHonestResult e w words asked) → IsModelAnswer Stands answer h.held e w words
+  pub is_answered : (w : Workspace) (words : List ℕ) (asked : ℕ) (a : IsHonestResult e w words asked) → IsModelAnswer Stands answer h.held e w words
   is_answered w words asked a = by_end (serves_noted a.aimed.fit a.time a.slot a.small)
     where
       nth : ℕ
@@ -150,6 +150,6 @@ module _ {B : Type 0} (space : List ℕ → ℕ → Space) (Before Stands : List
       by_end (Well end steps s) = answered end (one_end (second_setting e) start end a.end steps a.made s.run a.run) s.held s.replied
       by_end (Unfit second m n bad) = absurd (halts_or_aborts (second_setting e) start m a.end NoNotes n a.made bad a.run.halts)
 
--- what is trusted and fit is an errand
-pub fit_is_errand : (e : Errand) → IsTrusted e → PassesGuard e → IsErrand e
-fit_is_errand e t fit = record { intact = fit.intact; has = fit.has; called = fit.called; bucket = t.bucket fit; clock = t.clock; ends = t.ends fit }
+-- what is trusted and fit is a call context
+pub fit_is_context : (e : CallContext) → IsTrusted e → PassesGuard e → IsCallContext e
+fit_is_context e t fit = record { intact = fit.intact; has = fit.has; called = fit.called; bucket = t.bucket fit; clock = t.clock; ends = t.ends fit }

@@ -12,10 +12,10 @@ use Rattle.sei_traverse.specs.declared.turned.State.{State}
 use Rattle.sei_traverse.specs.declared.turned.State.TheVariants.{Went, Finished, Refused, Aborted}
 use Rattle.sei_traverse.specs.declared.turned.Want.{Want}
 use Rattle.sei_traverse.specs.declared.turned.Want.TheVariants.{Nothing, Take as WantTake, Enter as WantEnter, Give as WantGive}
-use Rattle.sei_traverse.specs.declared.walk.Walk.{Walk}
-use Rattle.sei_traverse.specs.Errand.{Errand}
-use Rattle.sei_traverse.specs.Facts.{IsRight, Wanted, ClosesOnce, IsAborted, Isolates, closing_want}
-use Rattle.sei_traverse.specs.Facts.ClosesOnce.{Stays, Closes, Lacks}
+use Rattle.sei_traverse.specs.declared.workspace.Workspace.{Workspace}
+use Rattle.sei_traverse.specs.CallContext.{CallContext}
+use Rattle.sei_traverse.specs.FaultInvariant.{IsRight, Wanted, ClosesOnce, IsAborted, Isolates, closing_want}
+use Rattle.sei_traverse.specs.FaultInvariant.ClosesOnce.{Stays, Closes, Lacks}
 use Rattle.sei_traverse.specs.OnWay.{lent_words}
 use Rattle.sei_traverse.specs.Phases.{reply_of, send_want}
 use Rattle.sei_traverse.specs.State.{TraversalState}
@@ -25,7 +25,7 @@ use Rattle.sei_traverse.specs.Wanting.Steps.{Begins, GoesOn}
 
 -- what was wanted so far, by the number of closed phases. Where it is right still, the wanted bucket is the one of which
 -- Take was closed, and the reply the one of which Send was closed
-data WantedTo (e : Errand) (w : Walk) (right : Type 0) (wanted : List Want) : Type 0 where
+data WantedTo (e : CallContext) (w : Workspace) (right : Type 0) (wanted : List Want) : Type 0 where
   ToNone : w.gate.done ≤ 1 → wanted ≡ [] → WantedTo e w right wanted
   ToTake : (bucket : ℕ) → 2 ≤ w.gate.done → w.gate.done ≤ 7 → wanted ≡ WantTake bucket ∷ [] → (right → w.wanted ≡ bucket) → WantedTo e w right wanted
   ToEnter : w.gate.done ≡ 8 → wanted ≡ WantTake e.call.bucket ∷ WantEnter ∷ [] → WantedTo e w right wanted
@@ -42,7 +42,7 @@ wants_none wants wanted h = wants_more wants Nothing wanted h ∙ append-nil wan
 
 -- what was wanted is a beginning of all wants
 
-none_once : (e : Errand) (wants : List Want) → wanted_in wants ≡ [] → WantsOnce e wants
+none_once : (e : CallContext) (wants : List Want) → wanted_in wants ≡ [] → WantsOnce e wants
 none_once e wants is = record {
   bucket = e.call.bucket;
   reply = [];
@@ -51,10 +51,10 @@ none_once e wants is = record {
   aimed = λ two. refl;
 }
 
-all_once : (e : Errand) (wants : List Want) (reply : List ℕ) → wanted_in wants ≡ all_wants e.call.bucket reply → WantsOnce e wants
+all_once : (e : CallContext) (wants : List Want) (reply : List ℕ) → wanted_in wants ≡ all_wants e.call.bucket reply → WantsOnce e wants
 all_once e wants reply is = record { bucket = e.call.bucket; reply = reply; rest = []; order = append-nil (wanted_in wants) ∙ is; aimed = λ two. refl }
 
-wanted_once : (e : Errand) (w : Walk) (right : Type 0) (wants : List Want) → WantedTo e w right (wanted_in wants) → WantsOnce e wants
+wanted_once : (e : CallContext) (w : Workspace) (right : Type 0) (wants : List Want) → WantedTo e w right (wanted_in wants) → WantsOnce e wants
 wanted_once e w right wants (ToNone gate is) = none_once e wants is
 wanted_once e w right wants (ToTake bucket from to is aimed) =
     let one : length (wanted_in wants) ≡ 1 = ap length is in
@@ -72,7 +72,7 @@ wanted_once e w right wants (ToAll reply gate is same) = all_once e wants reply 
 
 -- what was wanted, by the number of closed phases
 
-module _ (e : Errand) (w : Walk) (right : Type 0) (wanted : List Want) where
+module _ (e : CallContext) (w : Workspace) (right : Type 0) (wanted : List Want) where
   none_before : WantedTo e w right wanted → w.gate.done ≤ 1 → wanted ≡ []
   none_before (ToNone gate is) before = is
   none_before (ToTake bucket from to is aimed) before = absurd (omega (arith, from, before))
@@ -111,11 +111,11 @@ module _ (e : Errand) (w : Walk) (right : Type 0) (wanted : List Want) where
 -- A step.
 
 -- where the words are those of an honest run, the wanted bucket is the call's
-aimed_on : (e : Errand) (w : Walk) (lent : Option (List ℕ)) (asked : ℕ) → On lent (λ words. IsHonestResult e w words asked) → w.wanted ≡ e.call.bucket
+aimed_on : (e : CallContext) (w : Workspace) (lent : Option (List ℕ)) (asked : ℕ) → On lent (λ words. IsHonestResult e w words asked) → w.wanted ≡ e.call.bucket
 aimed_on e w None asked h = absurd h
 aimed_on e w (Some words) asked h = h.aimed.wanted
 
-module _ (e : Errand) (old new : Walk) (wants : List Want) (h : WantedTo e old (IsRight old) (wanted_in wants)) (aims : 2 ≤ old.gate.done → IsRight old → new.wanted ≡ old.wanted)
+module _ (e : CallContext) (old new : Workspace) (wants : List Want) (h : WantedTo e old (IsRight old) (wanted_in wants)) (aims : 2 ≤ old.gate.done → IsRight old → new.wanted ≡ old.wanted)
     (still : 7 ≤ old.gate.done → IsRight old → reply_of new ≡ reply_of old) where
   abbrev After : Want → Type 0
   After want = WantedTo e new (IsRight old) (wanted_in (wants ++ want ∷ []))
@@ -163,9 +163,9 @@ module _ (e : Errand) (old new : Walk) (wants : List Want) (h : WantedTo e old (
 -- Behind the steps.
 
 -- where the traversal goes on, and where it ended
-abbrev IsWanted : Errand → List Want → TraversalState → State → Type 0
-IsWanted e wants t Went = WantedTo e t.walk (IsRight t.walk) (wanted_in wants)
-IsWanted e wants t Finished = wanted_in wants ≡ all_wants e.call.bucket (reply_of t.walk)
+abbrev IsWanted : CallContext → List Want → TraversalState → State → Type 0
+IsWanted e wants t Went = WantedTo e t.workspace (IsRight t.workspace) (wanted_in wants)
+IsWanted e wants t Finished = wanted_in wants ≡ all_wants e.call.bucket (reply_of t.workspace)
 IsWanted e wants t Refused = wanted_in wants ≡ []
 IsWanted e wants t (Aborted abort) = WantsOnce e wants
 
@@ -178,65 +178,65 @@ unrefuted m n h = by_case (equal_or m n)
     by_case (inr other) = absurd (h (λ same. other same))
 
 -- where it is right behind a step only if it was so before
-still_right : (e : Errand) (old new : Walk) (wanted : List Want) → (IsRight new → IsRight old) → WantedTo e new (IsRight old) wanted → WantedTo e new (IsRight new) wanted
+still_right : (e : CallContext) (old new : Workspace) (wanted : List Want) → (IsRight new → IsRight old) → WantedTo e new (IsRight old) wanted → WantedTo e new (IsRight new) wanted
 still_right e old new wanted was (ToNone gate is) = ToNone gate is
 still_right e old new wanted was (ToTake bucket from to is aimed) = ToTake bucket from to is (λ right. aimed (was right))
 still_right e old new wanted was (ToEnter gate is) = ToEnter gate is
 still_right e old new wanted was (ToGive gate is) = ToGive gate is
 still_right e old new wanted was (ToAll reply gate is same) = ToAll reply gate is (λ right. same (was right))
 
-module _ (e : Errand) (begin now : Counts) (wants : List Want) (old new : TraversalState) (loan left : Option BucketWords) (h : WantedTo e old.walk (IsRight old.walk) (wanted_in wants)) (state : State)
-    (i : Isolates e old new loan left begin now new.walk.want state) where
+module _ (e : CallContext) (begin now : Counts) (wants : List Want) (old new : TraversalState) (lent_bucket left : Option BucketWords) (h : WantedTo e old.workspace (IsRight old.workspace) (wanted_in wants)) (state : State)
+    (i : Isolates e old new lent_bucket left begin now new.workspace.want state) where
   abbrev so_far : List Want
-  so_far = wants ++ new.walk.want ∷ []
+  so_far = wants ++ new.workspace.want ∷ []
 
-  still_reply : 7 ≤ old.walk.gate.done → IsRight old.walk → reply_of new.walk ≡ reply_of old.walk
+  still_reply : 7 ≤ old.workspace.gate.done → IsRight old.workspace → reply_of new.workspace ≡ reply_of old.workspace
   still_reply seven right = ap (λ (p : PassState). p.bytes.items) (i.still seven right).0.second
 
   -- where Take is not closed without its want
-  goes_by : ClosesOnce e old.walk new.walk (IsAborted state) → WantedTo e new.walk (IsRight old.walk) (wanted_in so_far) ⊎ ((wanted_in so_far ≡ []) × IsAborted state)
+  goes_by : ClosesOnce e old.workspace new.workspace (IsAborted state) → WantedTo e new.workspace (IsRight old.workspace) (wanted_in so_far) ⊎ ((wanted_in so_far ≡ []) × IsAborted state)
   goes_by (Stays same none) =
-      inl (subst (λ (w : Want). WantedTo e new.walk (IsRight old.walk) (wanted_in (wants ++ w ∷ []))) (sym none) (stays_by e old.walk new.walk wants h i.aims still_reply h same))
+      inl (subst (λ (w : Want). WantedTo e new.workspace (IsRight old.workspace) (wanted_in (wants ++ w ∷ []))) (sym none) (stays_by e old.workspace new.workspace wants h i.aims still_reply h same))
   goes_by (Closes phase at gate more want) =
-      inl (subst (λ (w : Want). WantedTo e new.walk (IsRight old.walk) (wanted_in (wants ++ w ∷ []))) (sym want)
-      (closes e old.walk new.walk wants h i.aims still_reply phase (gate ∙ ap phase_number (sym at)) gate more (lent_words left) i.wants.asked
-      (subst (Wanted e new.walk (lent_words left) i.wants.asked) want i.wants.wanted)))
+      inl (subst (λ (w : Want). WantedTo e new.workspace (IsRight old.workspace) (wanted_in (wants ++ w ∷ []))) (sym want)
+      (closes e old.workspace new.workspace wants h i.aims still_reply phase (gate ∙ ap phase_number (sym at)) gate more (lent_words left) i.wants.asked
+      (subst (Wanted e new.workspace (lent_words left) i.wants.asked) want i.wants.wanted)))
   goes_by (Lacks was is none lacks ended) =
-      inr (subst (λ (w : Want). wanted_in (wants ++ w ∷ []) ≡ []) (sym none) (wants_none wants [] (none_before e old.walk (IsRight old.walk) (wanted_in wants) h (omega (arith, was)))), ended)
+      inr (subst (λ (w : Want). wanted_in (wants ++ w ∷ []) ≡ []) (sym none) (wants_none wants [] (none_before e old.workspace (IsRight old.workspace) (wanted_in wants) h (omega (arith, was)))), ended)
 
-module _ (e : Errand) (begin now : Counts) (wants : List Want) (old new : TraversalState) (loan left : Option BucketWords) where
-  goes_to : (state : State) → Isolates e old new loan left begin now new.walk.want state →
-      WantedTo e new.walk (IsRight old.walk) (wanted_in (wants ++ new.walk.want ∷ [])) ⊎ ((wanted_in (wants ++ new.walk.want ∷ []) ≡ []) × IsAborted state) → IsWanted e (wants ++ new.walk.want ∷ []) new state
-  goes_to Went i (inl w) = still_right e old.walk new.walk _ (λ right. unrefuted _ _ (λ wrong. i.lost wrong refl right)) w
+module _ (e : CallContext) (begin now : Counts) (wants : List Want) (old new : TraversalState) (lent_bucket left : Option BucketWords) where
+  goes_to : (state : State) → Isolates e old new lent_bucket left begin now new.workspace.want state →
+      WantedTo e new.workspace (IsRight old.workspace) (wanted_in (wants ++ new.workspace.want ∷ [])) ⊎ ((wanted_in (wants ++ new.workspace.want ∷ []) ≡ []) × IsAborted state) → IsWanted e (wants ++ new.workspace.want ∷ []) new state
+  goes_to Went i (inl w) = still_right e old.workspace new.workspace _ (λ right. unrefuted _ _ (λ wrong. i.lost wrong refl right)) w
   goes_to Finished i (inl w) =
-      let gate : new.walk.gate.done ≡ 11 = i.goes.gate in
-      let a = all_before e new.walk (IsRight old.walk) _ w (omega (arith, gate)) in
+      let gate : new.workspace.gate.done ≡ 11 = i.goes.gate in
+      let a = all_before e new.workspace (IsRight old.workspace) _ w (omega (arith, gate)) in
       a.1 ∙ ap (all_wants e.call.bucket) (sym (a.2 (i.finishes refl)))
-  goes_to Refused i (inl w) = none_before e new.walk (IsRight old.walk) _ w i.goes.gate
-  goes_to (Aborted abort) i (inl w) = wanted_once e new.walk (IsRight old.walk) (wants ++ new.walk.want ∷ []) w
+  goes_to Refused i (inl w) = none_before e new.workspace (IsRight old.workspace) _ w i.goes.gate
+  goes_to (Aborted abort) i (inl w) = wanted_once e new.workspace (IsRight old.workspace) (wants ++ new.workspace.want ∷ []) w
   goes_to Went i (inr w) = absurd w.1
   goes_to Finished i (inr w) = absurd w.1
   goes_to Refused i (inr w) = absurd w.1
-  goes_to (Aborted abort) i (inr w) = none_once e (wants ++ new.walk.want ∷ []) w.0
+  goes_to (Aborted abort) i (inr w) = none_once e (wants ++ new.workspace.want ∷ []) w.0
 
-are_wanted : (e : Errand) (begin : Counts) (wants : List Want) (t : TraversalState) (state : State) → Steps e begin wants t state → IsWanted e wants t state
+are_wanted : (e : CallContext) (begin : Counts) (wants : List Want) (t : TraversalState) (state : State) → Steps e begin wants t state → IsWanted e wants t state
 are_wanted e begin wants t state Begins = ToNone (omega arith) refl
-are_wanted e begin wants t state (GoesOn before old new loan left now state' steps i) =
-    goes_to e begin now before old new loan left state i (goes_by e begin now before old new loan left (are_wanted e begin before old Went steps) state i i.once)
+are_wanted e begin wants t state (GoesOn before old new lent_bucket left now state' steps i) =
+    goes_to e begin now before old new lent_bucket left state i (goes_by e begin now before old new lent_bucket left (are_wanted e begin before old Went steps) state i i.once)
 
 -- The clauses.
 
-pub wanted_at_most_once : (e : Errand) (begin : Counts) (wants : List Want) (t : TraversalState) (state : State) → Steps e begin wants t state → WantsOnce e wants
+pub wanted_at_most_once : (e : CallContext) (begin : Counts) (wants : List Want) (t : TraversalState) (state : State) → Steps e begin wants t state → WantsOnce e wants
 wanted_at_most_once e begin wants t state steps = by_state state (are_wanted e begin wants t state steps)
   where
     by_state : (s : State) → IsWanted e wants t s → WantsOnce e wants
-    by_state Went h = wanted_once e t.walk (IsRight t.walk) wants h
-    by_state Finished h = all_once e wants (reply_of t.walk) h
+    by_state Went h = wanted_once e t.workspace (IsRight t.workspace) wants h
+    by_state Finished h = all_once e wants (reply_of t.workspace) h
     by_state Refused h = none_once e wants h
     by_state (Aborted abort) h = h
 
-pub finished_wants : (e : Errand) (begin : Counts) (wants : List Want) (t : TraversalState) → Steps e begin wants t Finished → wanted_in wants ≡ all_wants e.call.bucket (reply_of t.walk)
+pub finished_wants : (e : CallContext) (begin : Counts) (wants : List Want) (t : TraversalState) → Steps e begin wants t Finished → wanted_in wants ≡ all_wants e.call.bucket (reply_of t.workspace)
 finished_wants e begin wants t steps = are_wanted e begin wants t Finished steps
 
-pub refused_wants : (e : Errand) (begin : Counts) (wants : List Want) (t : TraversalState) → Steps e begin wants t Refused → wanted_in wants ≡ []
+pub refused_wants : (e : CallContext) (begin : Counts) (wants : List Want) (t : TraversalState) → Steps e begin wants t Refused → wanted_in wants ≡ []
 refused_wants e begin wants t steps = are_wanted e begin wants t Refused steps

@@ -6,9 +6,9 @@ use Rattle.sei_fault.specs.declared.place.Phase.TheVariants.{First, Give, Send, 
 use Rattle.sei_pass.specs.State.{PassState}
 use Rattle.sei_log.specs.declared.notes.Notes.{Notes}
 use Rattle.sei_stmt.specs.Machine.{Machine, After}
-use Rattle.sei_traverse.specs.declared.walk.Walk.{Walk}
+use Rattle.sei_traverse.specs.declared.workspace.Workspace.{Workspace}
 use Rattle.sei_traverse.specs.Comes.{Agrees}
-use Rattle.sei_traverse.specs.Errand.{Errand, IsErrand, Whole, first_setting, first_start}
+use Rattle.sei_traverse.specs.CallContext.{CallContext, IsCallContext, Whole, first_setting, first_start}
 use Rattle.sei_traverse.specs.OnWay.{IsClean, OnWay, AtEnd}
 use Rattle.sei_traverse.specs.Served.{HasReply, IsServed}
 use Rattle.sei_traverse.specs.State.{TraversalState, begun_traversal}
@@ -17,7 +17,7 @@ use Rattle.sei_traverse.proofs.EdgeActs.{lends}
 use Rattle.sei_traverse.proofs.Settled.{bounded, bounded_end}
 use Rattle.sei_traverse.proofs.TimeLaws.{agrees_behind}
 
-pub way_begins : (e : Errand) (c : Counts) → OnWay e (begun_traversal e.space e.sealed) None c c
+pub way_begins : (e : CallContext) (c : Counts) → OnWay e (begun_traversal e.space e.sealed) None c c
 way_begins e c = record {
   later = omega arith;
   clean = λ u. record {
@@ -38,12 +38,12 @@ way_begins e c = record {
 }
 
 -- a clean traversal in this phase
-in_this : (e : Errand) (t : TraversalState) (lent : Option (List ℕ)) (begin now : Counts) (p : Phase) → t.walk.place.phase ≡ p → (c : IsClean e t lent begin now) → CleanIn e t.walk lent t.steps c.asked p
-in_this e t lent begin now p is c = subst (λ (q : Phase). CleanIn e t.walk lent t.steps c.asked q) is c.clean.in_phase
+in_this : (e : CallContext) (t : TraversalState) (lent : Option (List ℕ)) (begin now : Counts) (p : Phase) → t.workspace.place.phase ≡ p → (c : IsClean e t lent begin now) → CleanIn e t.workspace lent t.steps c.asked p
+in_this e t lent begin now p is c = subst (λ (q : Phase). CleanIn e t.workspace lent t.steps c.asked q) is c.clean.in_phase
 
 -- what is lent may be other words, where its phase says so
-relent : (e : Errand) (t : TraversalState) (old new : Option (List ℕ)) (begin now : Counts) (p : Phase) → t.walk.place.phase ≡ p →
-    ((steps asked : ℕ) → CleanIn e t.walk old steps asked p → CleanIn e t.walk new steps asked p) → OnWay e t old begin now → OnWay e t new begin now
+relent : (e : CallContext) (t : TraversalState) (old new : Option (List ℕ)) (begin now : Counts) (p : Phase) → t.workspace.place.phase ≡ p →
+    ((steps asked : ℕ) → CleanIn e t.workspace old steps asked p → CleanIn e t.workspace new steps asked p) → OnWay e t old begin now → OnWay e t new begin now
 relent e t old new begin now p is f way = record {
   later = way.later;
   clean = λ u.
@@ -51,86 +51,86 @@ relent e t old new begin now p is f way = record {
       record {
         space = c.space;
         asked = c.asked;
-        clean = record { in_phase = subst (λ (q : Phase). CleanIn e t.walk new t.steps c.asked q) (sym is) (f t.steps c.asked (in_this e t old begin now p is c)) };
+        clean = record { in_phase = subst (λ (q : Phase). CleanIn e t.workspace new t.steps c.asked q) (sym is) (f t.steps c.asked (in_this e t old begin now p is c)) };
         counted = c.counted;
       };
 }
 
-pub way_lends : (e : Errand) (t : TraversalState) (begin now : Counts) → IsErrand e → t.walk.place.phase ≡ First → OnWay e t None begin now → OnWay e t (Some e.taken) begin now
+pub way_lends : (e : CallContext) (t : TraversalState) (begin now : Counts) → IsCallContext e → t.workspace.place.phase ≡ First → OnWay e t None begin now → OnWay e t (Some e.taken) begin now
 way_lends e t begin now ie is way =
-    relent e t None (Some e.taken) begin now First is (λ steps asked i. record { is = i.is; second = i.second; at = lends e t.walk steps asked ie.clock i.at }) way
+    relent e t None (Some e.taken) begin now First is (λ steps asked i. record { is = i.is; second = i.second; at = lends e t.workspace steps asked ie.clock i.at }) way
 
-pub way_gives : (e : Errand) (t : TraversalState) (words : List ℕ) (begin now : Counts) → t.walk.place.phase ≡ Send → OnWay e t (Some words) begin now → OnWay e t None begin now
+pub way_gives : (e : CallContext) (t : TraversalState) (words : List ℕ) (begin now : Counts) → t.workspace.place.phase ≡ Send → OnWay e t (Some words) begin now → OnWay e t None begin now
 way_gives e t words begin now is way = relent e t (Some words) None begin now Send is
     (λ steps asked i. record { is = i.is; time = i.time; made = i.made; end = i.end; answered = i.answered; index = i.index; words = search; number = i.number }) way
 
-pub way_ends : (e : Errand) (t : TraversalState) (lent : Option (List ℕ)) (begin now : Counts) → IsErrand e → OnWay e t lent begin now → now.struck ≡ begin.struck →
+pub way_ends : (e : CallContext) (t : TraversalState) (lent : Option (List ℕ)) (begin now : Counts) → IsCallContext e → OnWay e t lent begin now → now.struck ≡ begin.struck →
     t.steps ≤ 2 * e.space.budget + 3 * e.space.log + 11
-way_ends e t lent begin now ie way u = let c = way.clean u in bounded e ie t.walk lent t.steps c.asked t.walk.place.phase c.clean.in_phase
+way_ends e t lent begin now ie way u = let c = way.clean u in bounded e ie t.workspace lent t.steps c.asked t.workspace.place.phase c.clean.in_phase
 
-pub end_ends : (e : Errand) (t : TraversalState) (begin now : Counts) → AtEnd e t begin now → now.struck ≡ begin.struck → t.steps ≤ 2 * e.space.budget + 3 * e.space.log + 11
-end_ends e t begin now way u = let c = way.clean u in bounded_end e t.walk t.steps c.asked c.finished
+pub end_ends : (e : CallContext) (t : TraversalState) (begin now : Counts) → AtEnd e t begin now → now.struck ≡ begin.struck → t.steps ≤ 2 * e.space.budget + 3 * e.space.log + 11
+end_ends e t begin now way u = let c = way.clean u in bounded_end e t.workspace t.steps c.asked c.finished
 
-reply_is : (e : Errand) (w : Walk) (end : Machine) → SecondIsDone e w end → w.second.bytes.items ≡ end.bytes.items
+reply_is : (e : CallContext) (w : Workspace) (end : Machine) → SecondIsDone e w end → w.second.bytes.items ≡ end.bytes.items
 reply_is e w end h = ap (λ (p : PassState). p.bytes.items) h.second
 
 -- where a whole first pass noted a time, it is the time of the run
-by_noted : (e : Errand) (time made : ℕ) (end : Machine) (notes : Notes) → Whole e time made end → notes ≡ end.notes → Agrees notes.now time
+by_noted : (e : CallContext) (time made : ℕ) (end : Machine) (notes : Notes) → Whole e time made end → notes ≡ end.notes → Agrees notes.now time
 by_noted e time made end notes whole is =
     subst (λ (n : Notes). Agrees n.now time) (sym is)
     (subst (λ (x : After). Agrees x.machine.notes.now time) whole.run.halts (agrees_behind (first_setting e) refl (first_start e) time made whole.small whole.small))
 
-has_reply : (e : Errand) (t : TraversalState) (begin now : Counts) (time made asked : ℕ) (end : Machine) → HasOutput e t.walk time made end asked →
+has_reply : (e : CallContext) (t : TraversalState) (begin now : Counts) (time made asked : ℕ) (end : Machine) → HasOutput e t.workspace time made end asked →
     (now.asked < 2 ^ 128 - 1 → begin.asked + asked ≤ now.asked) → HasReply e t begin now
 has_reply e t begin now time made asked end a counted = record {
   time = time;
   made = made;
   end = end;
   whole = a.whole;
-  noted = by_noted e time made end t.walk.notes a.whole a.notes;
-  reply = reply_is e t.walk end a.second;
+  noted = by_noted e time made end t.workspace.notes a.whole a.notes;
+  reply = reply_is e t.workspace end a.second;
   wire = a.copy;
   twice = λ m. omega (arith, counted m, a.questions);
 }
 
-pub way_entered : (e : Errand) (t : TraversalState) (lent : Option (List ℕ)) (begin now : Counts) → t.walk.place.phase ≡ Give → OnWay e t lent begin now → now.struck ≡ begin.struck → IsServed e t lent begin now
+pub way_entered : (e : CallContext) (t : TraversalState) (lent : Option (List ℕ)) (begin now : Counts) → t.workspace.place.phase ≡ Give → OnWay e t lent begin now → now.struck ≡ begin.struck → IsServed e t lent begin now
 way_entered e t lent begin now is way u =
     let c = way.clean u in
-    let i : InGive e t.walk lent t.steps c.asked = in_this e t lent begin now Give is c in
+    let i : InGive e t.workspace lent t.steps c.asked = in_this e t lent begin now Give is c in
     record {
       reply = record {
         time = i.time;
         made = i.made;
         end = i.end;
         whole = i.both.whole;
-        noted = by_noted e i.time i.made i.end t.walk.notes i.both.whole i.both.first.notes;
-        reply = reply_is e t.walk i.end i.both.second;
+        noted = by_noted e i.time i.made i.end t.workspace.notes i.both.whole i.both.first.notes;
+        reply = reply_is e t.workspace i.end i.both.second;
         wire = i.copy;
         twice = λ m. omega (arith, c.counted m, i.both.questions);
       };
       words = i.both.words;
     }
 
-pub way_given : (e : Errand) (t : TraversalState) (lent : Option (List ℕ)) (begin now : Counts) → t.walk.place.phase ≡ Send → OnWay e t lent begin now → now.struck ≡ begin.struck → HasReply e t begin now
+pub way_given : (e : CallContext) (t : TraversalState) (lent : Option (List ℕ)) (begin now : Counts) → t.workspace.place.phase ≡ Send → OnWay e t lent begin now → now.struck ≡ begin.struck → HasReply e t begin now
 way_given e t lent begin now is way u =
     let c = way.clean u in
-    let i : InSend e t.walk lent t.steps c.asked = in_this e t lent begin now Send is c in
+    let i : InSend e t.workspace lent t.steps c.asked = in_this e t lent begin now Send is c in
     has_reply e t begin now i.time i.made c.asked i.end i.answered c.counted
 
-pub way_still : (e : Errand) (t : TraversalState) (words : List ℕ) (begin now : Counts) → t.walk.place.phase ≡ Send → OnWay e t (Some words) begin now → now.struck ≡ begin.struck → IsServed e t (Some words) begin now
+pub way_still : (e : CallContext) (t : TraversalState) (words : List ℕ) (begin now : Counts) → t.workspace.place.phase ≡ Send → OnWay e t (Some words) begin now → now.struck ≡ begin.struck → IsServed e t (Some words) begin now
 unfolding has_reply
 way_still e t words begin now is way u =
     let c = way.clean u in
-    let i : InSend e t.walk (Some words) t.steps c.asked = in_this e t (Some words) begin now Send is c in
+    let i : InSend e t.workspace (Some words) t.steps c.asked = in_this e t (Some words) begin now Send is c in
     record { reply = has_reply e t begin now i.time i.made c.asked i.end i.answered c.counted; words = ap (λ (ws : List ℕ). let o : Option (List ℕ) = Some ws in o) i.words }
 
-pub way_sent : (e : Errand) (t : TraversalState) (lent : Option (List ℕ)) (begin now : Counts) → t.walk.place.phase ≡ Done → OnWay e t lent begin now → now.struck ≡ begin.struck → HasReply e t begin now
+pub way_sent : (e : CallContext) (t : TraversalState) (lent : Option (List ℕ)) (begin now : Counts) → t.workspace.place.phase ≡ Done → OnWay e t lent begin now → now.struck ≡ begin.struck → HasReply e t begin now
 way_sent e t lent begin now is way u =
     let c = way.clean u in
-    let i : InDone e t.walk t.steps c.asked = in_this e t lent begin now Done is c in
+    let i : InDone e t.workspace t.steps c.asked = in_this e t lent begin now Done is c in
     has_reply e t begin now i.time i.made c.asked i.end i.answered c.counted
 
-pub end_finished : (e : Errand) (t : TraversalState) (begin now : Counts) → AtEnd e t begin now → now.struck ≡ begin.struck → HasReply e t begin now
+pub end_finished : (e : CallContext) (t : TraversalState) (begin now : Counts) → AtEnd e t begin now → now.struck ≡ begin.struck → HasReply e t begin now
 end_finished e t begin now way u =
     let c = way.clean u in
     has_reply e t begin now c.finished.time c.finished.made c.asked c.finished.end c.finished.answered c.counted

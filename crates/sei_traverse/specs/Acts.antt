@@ -8,20 +8,20 @@ use Rattle.sei_fault.specs.Tree.{Tree, bound}
 use Rattle.sei_fault.specs.Tree.Tree.{Done as Ended}
 use Rattle.sei_gate.specs.Closing.{closing}
 use Rattle.sei_traverse.specs.declared.turned.Want.{Want}
-use Rattle.sei_traverse.specs.declared.walk.Ending.{Ending}
-use Rattle.sei_traverse.specs.declared.walk.Ending.TheVariants.{Leads, Aborts}
-use Rattle.sei_traverse.specs.declared.walk.Walk.{Walk}
+use Rattle.sei_traverse.specs.declared.workspace.Ending.{Ending}
+use Rattle.sei_traverse.specs.declared.workspace.Ending.TheVariants.{Leads, Aborts}
+use Rattle.sei_traverse.specs.declared.workspace.Workspace.{Workspace}
 
 -- the traversal and the lent words behind an act, and how it ended
 pub record Acted : Type 0 where
-  pub walk : Walk
+  pub workspace : Workspace
   pub words : List ℕ
   pub ending : Ending
 
-abbrev pub acted : Walk → List ℕ → Ending → Acted
-acted w words e = record { walk = w; words = words; ending = e }
+abbrev pub acted : Workspace → List ℕ → Ending → Acted
+acted w words e = record { workspace = w; words = words; ending = e }
 
-abbrev pub ends : Walk → List ℕ → Ending → Tree Acted
+abbrev pub ends : Workspace → List ℕ → Ending → Tree Acted
 ends w words e = Ended (acted w words e)
 
 -- a place by its phase and index
@@ -29,15 +29,15 @@ abbrev pub at : Phase → ℕ → Place
 at phase index = record { phase = phase; index = index }
 
 -- behind the closing test of a gate: where it was answered yes, the act goes on; else it aborts
-abbrev pub closed_to : Walk → List ℕ → (Walk → Tree Acted) → Bool × ℕ → Tree Acted
+abbrev pub closed_to : Workspace → List ℕ → (Workspace → Tree Acted) → Bool × ℕ → Tree Acted
 closed_to w words on c =
-    let v : Walk = record w { gate = record { done = c.1 } } in
+    let v : Workspace = record w { gate = record { done = c.1 } } in
     if c.0 then on v else ends v words (Aborts (Gate c.1))
 
 -- to close a phase, as the gate does
-abbrev pub closing_then : Phase → Walk → List ℕ → (Walk → Tree Acted) → Tree Acted
+abbrev pub closing_then : Phase → Workspace → List ℕ → (Workspace → Tree Acted) → Tree Acted
 closing_then phase w words on = bound (closing (phase_number phase) w.gate.done) (closed_to w words on)
 
 -- the phase is closed, this is wanted, and the act leads to that place
-abbrev pub closes : Phase → Walk → List ℕ → Want → Place → Tree Acted
+abbrev pub closes : Phase → Workspace → List ℕ → Want → Place → Tree Acted
 closes phase w words want to = closing_then phase w words (λ v. ends (record v { want = want }) words (Leads to))

@@ -6,7 +6,7 @@ use Rattle.sei_fault.specs.declared.place.Phase.{Phase}
 use Rattle.sei_fault.specs.declared.place.Phase.TheVariants.{Guard, Take, First, Restore, Second, Compare, Verify, Enter, Give, Send, Done}
 use Rattle.sei_traverse.specs.declared.turned.State.{State}
 use Rattle.sei_traverse.specs.declared.turned.State.TheVariants.{Went, Finished, Refused, Aborted}
-use Rattle.sei_traverse.specs.declared.walk.Walk.{Walk}
+use Rattle.sei_traverse.specs.declared.workspace.Workspace.{Workspace}
 use Rattle.sei_traverse.specs.State.{TraversalState}
 
 -- the places in the order in which they are passed, where no log is longer than its room. All places of a pass have one number
@@ -28,12 +28,12 @@ abbrev pub last_number : PassSpace → ℕ
 last_number space = 12 + 3 * space.log
 
 -- how many statements both passes made
-abbrev pub made_by : Walk → ℕ
+abbrev pub made_by : Workspace → ℕ
 made_by w = w.first.made + w.second.made
 
--- how far a walk has come: how many statements it made, and the number of its place. Each step without a strike adds to one
+-- how far a workspace has come: how many statements it made, and the number of its place. Each step without a strike adds to one
 -- of them, and takes from none
-abbrev pub reached : PassSpace → Walk → ℕ
+abbrev pub reached : PassSpace → Workspace → ℕ
 reached space w = made_by w + place_number space w.place.phase w.place.index
 
 -- so many steps are made at most, with one strike: a strike leads back by the last number at most
@@ -43,8 +43,8 @@ most_steps space = 2 * space.budget + 6 * space.log + 26
 -- it made no more steps than it has come far; with one strike, no more than what a strike may lead back on top of that
 pub record StepsWithin (t : TraversalState) (begin now : Counts) : Type 0 where
   pub later : begin.struck ≤ now.struck
-  pub unstruck : now.struck ≡ begin.struck → t.steps ≤ reached t.space t.walk
-  pub struck : now.struck ≡ begin.struck + 1 → t.steps ≤ reached t.space t.walk + last_number t.space + 1
+  pub unstruck : now.struck ≡ begin.struck → t.steps ≤ reached t.space t.workspace
+  pub struck : now.struck ≡ begin.struck + 1 → t.steps ≤ reached t.space t.workspace + last_number t.space + 1
 
 -- behind a step: the same, or where it ended, with one strike at most, the bound
 abbrev pub StepsAfter : TraversalState → Counts → Counts → State → Type 0

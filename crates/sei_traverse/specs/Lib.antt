@@ -6,8 +6,8 @@ pub mod PassActs
 pub mod Step
 pub mod Noting
 pub mod Comes
-pub mod Walks
-pub mod Errand
+pub mod Workspaces
+pub mod CallContext
 pub mod Unstruck
 pub mod State
 pub mod OnWay
@@ -15,7 +15,7 @@ pub mod Served
 pub mod Sound
 pub mod Trusted
 pub mod Struck
-pub mod Facts
+pub mod FaultInvariant
 pub mod Bounds
 pub mod Wanting
 pub mod Running

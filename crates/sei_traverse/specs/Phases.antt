@@ -16,45 +16,45 @@ use Rattle.sei_restore.specs.Undoing.{Undone, undo_at}
 use Rattle.sei_compare.specs.Comparing.{entry_tree, codes_tree, word_at, wire_tree}
 use Rattle.sei_traverse.specs.declared.turned.Want.{Want}
 use Rattle.sei_traverse.specs.declared.turned.Want.TheVariants.{Nothing, Take as WantTake, Enter as WantEnter, Give as WantGive, Send as WantSend}
-use Rattle.sei_traverse.specs.declared.walk.Ending.TheVariants.{Leads, Refuses, Aborts}
-use Rattle.sei_traverse.specs.declared.walk.Walk.{Walk}
+use Rattle.sei_traverse.specs.declared.workspace.Ending.TheVariants.{Leads, Refuses, Aborts}
+use Rattle.sei_traverse.specs.declared.workspace.Workspace.{Workspace}
 use Rattle.sei_traverse.specs.Acts.{Acted, ends, at, closing_then, closes}
 use Rattle.sei_traverse.specs.Given.{Given, has_sealed_call, bucket_of_call}
 
 -- Guard: the input is the sealed one, and one whole request with the sealed call; otherwise it is refused
 
-abbrev pub guard_call : Given → Walk → List ℕ → Tree Acted
+abbrev pub guard_call : Given → Workspace → List ℕ → Tree Acted
 guard_call g w words =
     Ask (Test (has_sealed_call g w.sealed)) (λ yes. if yes then closes Guard w words Nothing (at Take 0) else ends w words Refuses)
 
-abbrev pub guard_tree : Given → Walk → List ℕ → Tree Acted
+abbrev pub guard_tree : Given → Workspace → List ℕ → Tree Acted
 guard_tree g w words = Ask (Test (is_intact w.sealed g.input)) (λ yes. if yes then guard_call g w words else ends w words Refuses)
 
 -- Take: the call's bucket is stored as the wanted one, and then that one is wanted
 
-abbrev pub store_wanted : Given → Walk → List ℕ → Tree Acted
+abbrev pub store_wanted : Given → Workspace → List ℕ → Tree Acted
 store_wanted g w words =
     Ask (Value (bucket_of_call g w.sealed)) (λ b. Ask (Written b) (λ wanted. ends (record w { wanted = wanted }) words (Leads (at Take 1))))
 
-abbrev pub take_wanted : Geometry → List ℕ → Walk → Tree Acted
+abbrev pub take_wanted : Geometry → List ℕ → Workspace → Tree Acted
 take_wanted g words w =
     if nat_lt w.wanted g.buckets
     then ends (record w { want = WantTake w.wanted }) words (Leads (at First 0))
     else ends w words (Aborts (Range w.wanted))
 
-abbrev pub take_tree : Given → ℕ → Walk → List ℕ → Tree Acted
+abbrev pub take_tree : Given → ℕ → Workspace → List ℕ → Tree Acted
 take_tree g index w words = if index == 0 then store_wanted g w words else closing_then Take w words (take_wanted g.space.geometry words)
 
 -- Restore: the changes of the first log are undone, the last one first
 
-abbrev pub undone_as : Walk → List ℕ → ℕ → Option AbortCause → Tree Acted
+abbrev pub undone_as : Workspace → List ℕ → ℕ → Option AbortCause → Tree Acted
 undone_as w words index None = ends w words (Leads (at Restore (index + 1)))
 undone_as w words index (Some cause) = ends w words (Aborts cause)
 
-abbrev pub undone_to : Walk → ℕ → Undone → Tree Acted
+abbrev pub undone_to : Workspace → ℕ → Undone → Tree Acted
 undone_to w index u = undone_as w u.words index u.cause
 
-abbrev pub restore_tree : ℕ → Walk → List ℕ → Tree Acted
+abbrev pub restore_tree : ℕ → Workspace → List ℕ → Tree Acted
 restore_tree index w words =
     if nat_lt index (length w.first_log.items)
     then bound (undo_at words (slice_get w.first_log.items (length w.first_log.items - 1 - index))) (undone_to w index)
@@ -63,16 +63,16 @@ restore_tree index w words =
 -- Compare: the entries of both logs, one by one, and then the outputs
 
 -- how many entries the longer log has
-abbrev pub compared : Walk → ℕ
+abbrev pub compared : Workspace → ℕ
 compared w = max (length w.first_log.items) (length w.second_log.items)
 
-abbrev pub entries_to : Walk → List ℕ → ℕ → Bool → Tree Acted
+abbrev pub entries_to : Workspace → List ℕ → ℕ → Bool → Tree Acted
 entries_to w words index same = if same then ends w words (Leads (at Compare (index + 1))) else ends w words (Aborts (Differs index))
 
-abbrev pub outputs_to : Walk → List ℕ → Bool → Tree Acted
+abbrev pub outputs_to : Workspace → List ℕ → Bool → Tree Acted
 outputs_to w words same = if same then closes Compare w words Nothing (at Verify 0) else ends w words (Aborts Replies)
 
-abbrev pub compare_tree : ℕ → Walk → List ℕ → Tree Acted
+abbrev pub compare_tree : ℕ → Workspace → List ℕ → Tree Acted
 compare_tree index w words =
     if nat_lt index (compared w)
     then bound (entry_tree w.first_log.items w.second_log.items index) (entries_to w words index)
@@ -80,30 +80,30 @@ compare_tree index w words =
 
 -- Verify: each changed word is read back, then the copy for the wire is made anew, and tested
 
-abbrev pub word_to : Walk → List ℕ → ℕ → Result Bool AbortCause → Tree Acted
+abbrev pub word_to : Workspace → List ℕ → ℕ → Result Bool AbortCause → Tree Acted
 word_to w words index (Ok same) = if same then ends w words (Leads (at Verify (index + 1))) else ends w words (Aborts (Differs index))
 word_to w words index (Err cause) = ends w words (Aborts cause)
 
 -- the reply: the output bytes of the second pass
-abbrev pub reply_of : Walk → List ℕ
+abbrev pub reply_of : Workspace → List ℕ
 reply_of w = w.second.bytes.items
 
 -- the copy is the reply, its first byte the low eight bits of what the core stores; an empty reply has an empty copy
-abbrev pub copy_bytes : Walk → List ℕ → ℕ → List ℕ → Tree Acted
+abbrev pub copy_bytes : Workspace → List ℕ → ℕ → List ℕ → Tree Acted
 copy_bytes w words index [] = ends (record w { wire = emptied w.wire }) words (Leads (at Verify (index + 1)))
 copy_bytes w words index (byte ∷ bytes) =
     Ask (Written byte) (λ b. ends (record w { wire = refilled w.wire (b % 2 ^ 8 ∷ bytes) }) words (Leads (at Verify (index + 1))))
 
-abbrev pub wire_to : Walk → List ℕ → Bool → Tree Acted
+abbrev pub wire_to : Workspace → List ℕ → Bool → Tree Acted
 wire_to w words same = if same then closes Verify w words Nothing (at Enter 0) else ends w words (Aborts Wires)
 
-abbrev pub verify_copy : ℕ → Walk → List ℕ → Tree Acted
+abbrev pub verify_copy : ℕ → Workspace → List ℕ → Tree Acted
 verify_copy index w words =
     if index == length w.second_log.items
     then copy_bytes w words index (reply_of w)
     else bound (wire_tree w.sealed.answer w.first.code w.first.bytes.items w.wire.items) (wire_to w words)
 
-abbrev pub verify_tree : ℕ → Walk → List ℕ → Tree Acted
+abbrev pub verify_tree : ℕ → Workspace → List ℕ → Tree Acted
 verify_tree index w words =
     if nat_lt index (length w.second_log.items)
     then bound (word_at words (slice_get w.second_log.items index)) (word_to w words index)
@@ -115,14 +115,14 @@ abbrev pub send_want : List ℕ → Want
 send_want [] = Nothing
 send_want (byte ∷ bytes) = WantSend
 
-abbrev pub enter_tree : Walk → List ℕ → Tree Acted
+abbrev pub enter_tree : Workspace → List ℕ → Tree Acted
 enter_tree w words = closes Enter w words WantEnter (at Give 0)
 
-abbrev pub give_tree : Walk → List ℕ → Tree Acted
+abbrev pub give_tree : Workspace → List ℕ → Tree Acted
 give_tree w words = closes Give w words WantGive (at Send 0)
 
-abbrev pub send_tree : Walk → List ℕ → Tree Acted
+abbrev pub send_tree : Workspace → List ℕ → Tree Acted
 send_tree w words = closes Send w words (send_want (reply_of w)) (at Done 0)
 
-abbrev pub done_tree : Walk → List ℕ → Tree Acted
+abbrev pub done_tree : Workspace → List ℕ → Tree Acted
 done_tree w words = closes Done w words Nothing (at Done 1)

@@ -5,7 +5,7 @@ use Rattle.sei_fault.specs.Counts.{Counts}
 use Rattle.sei_fault.specs.Question.{Question, Answer}
 use Rattle.sei_fault.specs.Tree.{Tree, bound}
 use Rattle.sei_fault.specs.Tree.Tree.{Done as Ended}
-use Rattle.sei_words.specs.Loan.{words_of, bucket_of, place_of}
+use Rattle.sei_words.specs.LentBucket.{words_of, bucket_of, place_of}
 use Rattle.sei_words.specs.Words.{BucketWords}
 use Rattle.sei_pass.specs.declared.loops.Exit.{Exit}
 use Rattle.sei_pass.specs.declared.loops.Exit.TheVariants.{At, Halted, Bad, Struck, Alone}
@@ -15,13 +15,13 @@ use Rattle.sei_traverse.specs.declared.turned.State.{State}
 use Rattle.sei_traverse.specs.declared.turned.State.TheVariants.{Went}
 use Rattle.sei_traverse.specs.declared.turned.Turned.{Turned}
 use Rattle.sei_traverse.specs.declared.turned.Want.TheVariants.{Nothing}
-use Rattle.sei_traverse.specs.declared.walk.Walk.{Walk}
+use Rattle.sei_traverse.specs.declared.workspace.Workspace.{Workspace}
 use Rattle.sei_traverse.specs.Acts.{at, closes}
 use Rattle.sei_traverse.specs.Noting.{NotesTime}
 use Rattle.sei_traverse.specs.Given.{Given, given_of}
 use Rattle.sei_stmt.specs.Handling.{Behavior}
 use Rattle.sei_traverse.specs.State.{TraversalState, IsTraversal, one_more, is_running}
-use Rattle.sei_traverse.specs.Step.{Turn, turn, aborted, next_phase, arrival, goes_on, turn_as, turn_tree, TimedTwice}
+use Rattle.sei_traverse.specs.Step.{StepResult, step_result, aborted, next_phase, arrival, goes_on, step_as, traversal_step, TimedTwice}
 
 -- a traversal, what is lent to it, and its core
 pub record On (S : Type 0) : Type 0 where
@@ -34,25 +34,25 @@ on traversal lent core = record { traversal = traversal; lent = lent; core = cor
 
 -- one step of the definition, whatever the core answers, which leads there and turned out so
 pub record StepsTo {S : Type 0} (gives : S → (q : Question) → Answer q → S → Type 0) (told : Option ℕ) (behavior : Behavior) (input : List ℕ) (x y : On S) (state : State) : Type 0 where
-  pub turned : TimedTwice gives told (λ now later. turn_tree (given_of behavior input x.traversal.space (bucket_of x.lent)) now later x.traversal.walk (words_of x.lent)) x.core y.core (turn y.traversal.walk (words_of y.lent) state)
+  pub turned : TimedTwice gives told (λ now later. traversal_step (given_of behavior input x.traversal.space (bucket_of x.lent)) now later x.traversal.workspace (words_of x.lent)) x.core y.core (step_result y.traversal.workspace (words_of y.lent) state)
   pub lent : place_of y.lent ≡ place_of x.lent
-  pub sealed : y.traversal.walk.sealed ≡ x.traversal.walk.sealed
+  pub sealed : y.traversal.workspace.sealed ≡ x.traversal.workspace.sealed
   pub space : y.traversal.space ≡ x.traversal.space
   pub steps : y.traversal.steps ≡ one_more x.traversal.steps
 
 -- all that holds of such a step, as the code makes it
 pub record Makes {S : Type 0} (gives : S → (q : Question) → Answer q → S → Type 0) (counts : S → Counts) (told : Option ℕ) (behavior : Behavior) (input : List ℕ) (x y : On S) (t : Turned) : Type 0 where
-  pub turned : TimedTwice gives told (λ now later. turn_tree (given_of behavior input x.traversal.space (bucket_of x.lent)) now later x.traversal.walk (words_of x.lent)) x.core y.core (turn y.traversal.walk (words_of y.lent) t.state)
-  pub want : t.want ≡ y.traversal.walk.want
+  pub turned : TimedTwice gives told (λ now later. traversal_step (given_of behavior input x.traversal.space (bucket_of x.lent)) now later x.traversal.workspace (words_of x.lent)) x.core y.core (step_result y.traversal.workspace (words_of y.lent) t.state)
+  pub want : t.want ≡ y.traversal.workspace.want
   pub lent : place_of y.lent ≡ place_of x.lent
-  pub sealed : y.traversal.walk.sealed ≡ x.traversal.walk.sealed
+  pub sealed : y.traversal.workspace.sealed ≡ x.traversal.workspace.sealed
   pub space : y.traversal.space ≡ x.traversal.space
   pub steps : y.traversal.steps ≡ one_more x.traversal.steps
   pub running : y.traversal.running ≡ is_running t.state
   -- logs, outputs and copies keep their rooms
   pub rooms : IsTraversal y.traversal
   -- what is noted of the time is the clock's answer
-  pub noted : NotesTime told x.traversal.walk.notes.now y.traversal.walk.notes.now
+  pub noted : NotesTime told x.traversal.workspace.notes.now y.traversal.workspace.notes.now
   -- no question is taken back, and no strike; at its last value the count of questions stands still
   pub asked : min (counts x.core).asked (2 ^ 128 - 1) ≤ (counts y.core).asked
   pub struck : (counts x.core).struck ≤ (counts y.core).struck
@@ -67,31 +67,31 @@ pub record RunsOn {S : Type 0} (gives : S → (q : Question) → Answer q → S 
   pub chain : Chain (Quiet gives counts told behavior input) n x last
   pub makes : Makes gives counts told behavior input last z t
 
--- a traversal on this walk, which goes on
-abbrev pub begun_at : Walk → PassSpace → ℕ → TraversalState
-begun_at w space steps = record { walk = w; space = space; steps = steps; running = true }
+-- a traversal on this workspace, which goes on
+abbrev pub begun_at : Workspace → PassSpace → ℕ → TraversalState
+begun_at w space steps = record { workspace = w; space = space; steps = steps; running = true }
 
 -- the same after a run
-abbrev pub left_at : Walk → PassSpace → ℕ → Many → TraversalState
-left_at w space steps many = record { walk = w; space = space; steps = min (steps + suc many.before) (2 ^ 64 - 1); running = is_running many.turned.state }
+abbrev pub left_at : Workspace → PassSpace → ℕ → Many → TraversalState
+left_at w space steps many = record { workspace = w; space = space; steps = min (steps + suc many.before) (2 ^ 64 - 1); running = is_running many.turned.state }
 
 -- what is left to do of a step of a pass if the loop over its steps left it so. The place is still that of the step
-abbrev pub rest : Given → ℕ → ℕ → Walk → List ℕ → Exit → Tree Turn
-rest g now later w words (At p) = Ended (turn (record w { place = p }) words (arrival w.place.phase p w.gate.done))
+abbrev pub rest : Given → ℕ → ℕ → Workspace → List ℕ → Exit → Tree StepResult
+rest g now later w words (At p) = Ended (step_result (record w { place = p }) words (arrival w.place.phase p w.gate.done))
 rest g now later w words Halted = bound (closes w.place.phase w words Nothing (at (next_phase w.place.phase) 0)) goes_on
-rest g now later w words (Bad cause) = Ended (turn w words (aborted w.place.phase cause))
-rest g now later w words (Struck act times) = turn_as g now later w words act times
-rest g now later w words Alone = turn_tree g now later w words
+rest g now later w words (Bad cause) = Ended (step_result w words (aborted w.place.phase cause))
+rest g now later w words (Struck act times) = step_as g now later w words act times
+rest g now later w words Alone = traversal_step g now later w words
 
 -- a step that was begun: it is whole, and the traversal goes on, or whatever does what is left of it makes it whole
-abbrev pub Begins : {S : Type 0} → (S → (q : Question) → Answer q → S → Type 0) → Option ℕ → Behavior → List ℕ → PassSpace → Walk → Option BucketWords → S → Walk → Option BucketWords → S → Exit → Bool → Type 0
-Begins gives told behavior input space w loan c v mid d exit true =
-    TimedTwice gives told (λ now later. turn_tree (given_of behavior input space (bucket_of loan)) now later w (words_of loan)) c d (turn v (words_of mid) Went)
-Begins gives told behavior input space w loan c v mid d exit false =
-    (f : _) (z : Turn) → TimedTwice gives told (λ now later. rest (given_of behavior input space (bucket_of mid)) now later v (words_of mid) exit) d f z →
-    TimedTwice gives told (λ now later. turn_tree (given_of behavior input space (bucket_of loan)) now later w (words_of loan)) c f z
+abbrev pub Begins : {S : Type 0} → (S → (q : Question) → Answer q → S → Type 0) → Option ℕ → Behavior → List ℕ → PassSpace → Workspace → Option BucketWords → S → Workspace → Option BucketWords → S → Exit → Bool → Type 0
+Begins gives told behavior input space w lent_bucket c v mid d exit true =
+    TimedTwice gives told (λ now later. traversal_step (given_of behavior input space (bucket_of lent_bucket)) now later w (words_of lent_bucket)) c d (step_result v (words_of mid) Went)
+Begins gives told behavior input space w lent_bucket c v mid d exit false =
+    (f : _) (z : StepResult) → TimedTwice gives told (λ now later. rest (given_of behavior input space (bucket_of mid)) now later v (words_of mid) exit) d f z →
+    TimedTwice gives told (λ now later. traversal_step (given_of behavior input space (bucket_of lent_bucket)) now later w (words_of lent_bucket)) c f z
 
 -- the same, whatever the clock answers and the input is
-abbrev pub BeginsStep : {S : Type 0} → (S → (q : Question) → Answer q → S → Type 0) → Behavior → Walk → Option BucketWords → S → Walk → Option BucketWords → S → Exit → Bool → Type 0
-BeginsStep gives behavior w loan c v mid d exit whole =
-    (told : Option ℕ) (input : List ℕ) (space : PassSpace) → w.first.space ≡ space → Begins gives told behavior input space w loan c v mid d exit whole
+abbrev pub BeginsStep : {S : Type 0} → (S → (q : Question) → Answer q → S → Type 0) → Behavior → Workspace → Option BucketWords → S → Workspace → Option BucketWords → S → Exit → Bool → Type 0
+BeginsStep gives behavior w lent_bucket c v mid d exit whole =
+    (told : Option ℕ) (input : List ℕ) (space : PassSpace) → w.first.space ≡ space → Begins gives told behavior input space w lent_bucket c v mid d exit whole

@@ -3,24 +3,24 @@ use Rattle.std.specs.Prelude.{◌≡◌, ℕ, ◌+◌, ◌*◌, ◌-◌, ◌^◌
 use Rattle.sei_fault.specs.Counts.{Counts}
 use Rattle.sei_stmt.specs.Machine.{Machine}
 use Rattle.sei_traverse.specs.Comes.{Agrees}
-use Rattle.sei_traverse.specs.Errand.{Errand, Whole}
+use Rattle.sei_traverse.specs.CallContext.{CallContext, Whole}
 use Rattle.sei_traverse.specs.Phases.{reply_of}
 use Rattle.sei_traverse.specs.State.{TraversalState}
 use Rattle.sei_traverse.specs.Unstruck.{first_questions}
 
 -- the reply and the copy for the wire are the output of an honest run, which is by the noted time where one was noted, and
 -- twice as many questions were asked as its own weigh, with the test behind Halt that closes its phase
-pub record HasReply (e : Errand) (t : TraversalState) (begin now : Counts) : Type 0 where
+pub record HasReply (e : CallContext) (t : TraversalState) (begin now : Counts) : Type 0 where
   pub time : ℕ
   pub made : ℕ
   pub end : Machine
   pub whole : Whole e time made end
-  pub noted : Agrees t.walk.notes.now time
-  pub reply : reply_of t.walk ≡ end.bytes.items
-  pub wire : t.walk.wire.items ≡ end.bytes.items
+  pub noted : Agrees t.workspace.notes.now time
+  pub reply : reply_of t.workspace ≡ end.bytes.items
+  pub wire : t.workspace.wire.items ≡ end.bytes.items
   pub twice : now.asked < 2 ^ 128 - 1 → begin.asked + 2 * first_questions e time made ≤ now.asked
 
 -- and the words that are lent are those that it leaves
-pub record IsServed (e : Errand) (t : TraversalState) (lent : Option (List ℕ)) (begin now : Counts) : Type 0 where
+pub record IsServed (e : CallContext) (t : TraversalState) (lent : Option (List ℕ)) (begin now : Counts) : Type 0 where
   pub reply : HasReply e t begin now
   pub words : lent ≡ Some reply.end.words

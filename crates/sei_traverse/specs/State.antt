@@ -11,25 +11,25 @@ use Rattle.sei_pass.specs.State.{new_pass}
 use Rattle.sei_traverse.specs.declared.turned.State.{State}
 use Rattle.sei_traverse.specs.declared.turned.State.TheVariants.{Went, Finished, Refused, Aborted}
 use Rattle.sei_traverse.specs.declared.turned.Want.TheVariants.{Nothing}
-use Rattle.sei_traverse.specs.declared.walk.Walk.{Walk}
+use Rattle.sei_traverse.specs.declared.workspace.Workspace.{Workspace}
 use Rattle.sei_traverse.specs.Acts.{at}
-use Rattle.sei_traverse.specs.Errand.{no_notes}
-use Rattle.sei_traverse.specs.Walks.{IsWalk}
+use Rattle.sei_traverse.specs.CallContext.{no_notes}
+use Rattle.sei_traverse.specs.Workspaces.{IsWorkspace}
 
 -- what its acts work on, its space, how many steps it made since it began, and whether it goes on
 pub record TraversalState : Type 0 where
-  pub walk : Walk
+  pub workspace : Workspace
   pub space : PassSpace
   pub steps : ℕ
   pub running : Bool
 
 pub record IsTraversal (t : TraversalState) : Type 0 where
-  pub walk : IsWalk t.walk
-  pub space : t.walk.first.space ≡ t.space
+  pub workspace : IsWorkspace t.workspace
+  pub space : t.workspace.first.space ≡ t.space
 
 -- before its first step
-abbrev pub begun_walk : PassSpace → Sealed → Walk
-begun_walk space sealed = record {
+abbrev pub begun_workspace : PassSpace → Sealed → Workspace
+begun_workspace space sealed = record {
   sealed = sealed;
   place = at Guard 0;
   gate = record { done = 0 };
@@ -44,7 +44,7 @@ begun_walk space sealed = record {
 }
 
 abbrev pub begun_traversal : PassSpace → Sealed → TraversalState
-begun_traversal space sealed = record { walk = begun_walk space sealed; space = space; steps = 0; running = true }
+begun_traversal space sealed = record { workspace = begun_workspace space sealed; space = space; steps = 0; running = true }
 
 -- one step more; at the last value of a u64 the number stays
 abbrev pub one_more : ℕ → ℕ
@@ -58,4 +58,4 @@ is_running (Aborted abort) = false
 
 -- the time that was noted, where one was and it reads
 abbrev pub noted_time : TraversalState → Option ℕ
-noted_time t = option_and_then read_of t.walk.notes.now
+noted_time t = option_and_then read_of t.workspace.notes.now

@@ -20,9 +20,9 @@ use Rattle.sei_pass.specs.Steps.{IsAnswer}
 use Rattle.sei_traverse.specs.declared.turned.State.{State}
 use Rattle.sei_traverse.specs.declared.turned.State.TheVariants.{Went, Finished, Refused, Aborted}
 use Rattle.sei_traverse.specs.declared.turned.Want.TheVariants.{Nothing}
-use Rattle.sei_traverse.specs.declared.walk.Ending.{Ending}
-use Rattle.sei_traverse.specs.declared.walk.Ending.TheVariants.{Leads, Refuses, Aborts}
-use Rattle.sei_traverse.specs.declared.walk.Walk.{Walk}
+use Rattle.sei_traverse.specs.declared.workspace.Ending.{Ending}
+use Rattle.sei_traverse.specs.declared.workspace.Ending.TheVariants.{Leads, Refuses, Aborts}
+use Rattle.sei_traverse.specs.declared.workspace.Workspace.{Workspace}
 use Rattle.sei_traverse.specs.Acts.{Acted, at}
 use Rattle.sei_traverse.specs.PassActs.{first_tree, second_tree}
 use Rattle.sei_traverse.specs.Phases.{guard_tree, take_tree, restore_tree, compared, compare_tree, verify_tree, enter_tree, give_tree, send_tree, done_tree}
@@ -31,7 +31,7 @@ use Rattle.sei_stmt.specs.Handling.{Behavior}
 
 -- the act at a place, for a clock that answers this
 
-abbrev pub act_in : Given → ℕ → Phase → ℕ → Walk → List ℕ → Tree Acted
+abbrev pub act_in : Given → ℕ → Phase → ℕ → Workspace → List ℕ → Tree Acted
 act_in g now Guard index w words = guard_tree g w words
 act_in g now Take index w words = take_tree g index w words
 act_in g now First index w words = first_tree g now index w words
@@ -44,7 +44,7 @@ act_in g now Give index w words = give_tree w words
 act_in g now Send index w words = send_tree w words
 act_in g now Done index w words = done_tree w words
 
-abbrev pub act_tree : Given → ℕ → Walk → List ℕ → Tree Acted
+abbrev pub act_tree : Given → ℕ → Workspace → List ℕ → Tree Acted
 act_tree g now w words = act_in g now w.place.phase w.place.index w words
 
 -- what the act is told as, or none where the place is no step of its phase
@@ -52,7 +52,7 @@ act_tree g now w words = act_in g now w.place.phase w.place.index w words
 abbrev pub plain_below : ℕ → ℕ → Option Act
 plain_below steps index = if nat_lt index steps then Some Plain else None
 
-abbrev pub site_in : Behavior → Walk → Phase → ℕ → Option Act
+abbrev pub site_in : Behavior → Workspace → Phase → ℕ → Option Act
 site_in s w Guard index = plain_below 1 index
 site_in s w Take index = plain_below 2 index
 site_in s w First index = option_map (act_of w.first.registers) (slice_get s.statements index)
@@ -65,7 +65,7 @@ site_in s w Give index = plain_below 1 index
 site_in s w Send index = plain_below 1 index
 site_in s w Done index = plain_below 1 index
 
-abbrev pub site_of : Behavior → Walk → Option Act
+abbrev pub site_of : Behavior → Workspace → Option Act
 site_of s w = site_in s w w.place.phase w.place.index
 
 -- where a step goes whose act was left out: to the next index, or behind a phase's last step to the next phase;
@@ -88,7 +88,7 @@ abbrev pub is_halt : Act → Bool
 is_halt Halt = true
 is_halt act = false
 
-abbrev pub is_last : Walk → Phase → ℕ → Act → Bool
+abbrev pub is_last : Workspace → Phase → ℕ → Act → Bool
 is_last w Guard index act = true
 is_last w Take index act = index == 1
 is_last w First index act = is_halt act
@@ -101,17 +101,17 @@ is_last w Give index act = true
 is_last w Send index act = true
 is_last w Done index act = false  -- behind Done 0 comes Done 1, the end
 
-abbrev pub skipped : Walk → Act → Place
+abbrev pub skipped : Workspace → Act → Place
 skipped w act = if is_last w w.place.phase w.place.index act then at (next_phase w.place.phase) 0 else at w.place.phase (w.place.index + 1)
 
 -- the traversal and the lent words behind a step, and whether it goes on
-pub record Turn : Type 0 where
-  pub walk : Walk
+pub record StepResult : Type 0 where
+  pub workspace : Workspace
   pub words : List ℕ
   pub state : State
 
-abbrev pub turn : Walk → List ℕ → State → Turn
-turn w words s = record { walk = w; words = words; state = s }
+abbrev pub step_result : Workspace → List ℕ → State → StepResult
+step_result w words s = record { workspace = w; words = words; state = s }
 
 abbrev pub aborted : Phase → AbortCause → State
 aborted phase cause = Aborted (record { phase = phase; cause = cause })
@@ -125,46 +125,46 @@ abbrev pub arrival : Phase → Place → ℕ → State
 arrival phase p done = if is_end p then (if done == 11 then Finished else aborted phase (Gate done)) else Went
 
 -- the core is asked for the next place
-abbrev pub goes : Walk → List ℕ → Place → Tree Turn
-goes w words to = Ask (Goes to) (λ p. Ended (turn (record w { place = p }) words (arrival w.place.phase p w.gate.done)))
+abbrev pub goes : Workspace → List ℕ → Place → Tree StepResult
+goes w words to = Ask (Goes to) (λ p. Ended (step_result (record w { place = p }) words (arrival w.place.phase p w.gate.done)))
 
 -- where an act leads, unless it ended the traversal. What it wants is wanted in each case
-abbrev pub unless_ended : (Place → Tree Turn) → Walk → List ℕ → Ending → Tree Turn
+abbrev pub unless_ended : (Place → Tree StepResult) → Workspace → List ℕ → Ending → Tree StepResult
 unless_ended on w words (Leads to) = on to
-unless_ended on w words Refuses = Ended (turn w words Refused)
-unless_ended on w words (Aborts cause) = Ended (turn w words (aborted w.place.phase cause))
+unless_ended on w words Refuses = Ended (step_result w words Refused)
+unless_ended on w words (Aborts cause) = Ended (step_result w words (aborted w.place.phase cause))
 
-abbrev pub goes_from : Walk → List ℕ → Ending → Tree Turn
+abbrev pub goes_from : Workspace → List ℕ → Ending → Tree StepResult
 goes_from w words ending = unless_ended (goes w words) w words ending
 
-abbrev pub goes_on : Acted → Tree Turn
-goes_on x = goes_from x.walk x.words x.ending
+abbrev pub goes_on : Acted → Tree StepResult
+goes_on x = goes_from x.workspace x.words x.ending
 
-abbrev pub once : Given → ℕ → Walk → List ℕ → Tree Turn
+abbrev pub once : Given → ℕ → Workspace → List ℕ → Tree StepResult
 once g now w words = bound (act_tree g now w words) goes_on
 
 -- the act once more, unless the first one ended the traversal; the clock may answer otherwise then
-abbrev pub twice_from : Given → ℕ → Walk → List ℕ → Ending → Tree Turn
+abbrev pub twice_from : Given → ℕ → Workspace → List ℕ → Ending → Tree StepResult
 twice_from g later w words ending = unless_ended (λ to. once g later w words) w words ending
 
-abbrev pub twice : Given → ℕ → Acted → Tree Turn
-twice g later x = twice_from g later x.walk x.words x.ending
+abbrev pub twice : Given → ℕ → Acted → Tree StepResult
+twice g later x = twice_from g later x.workspace x.words x.ending
 
-abbrev pub turn_as : Given → ℕ → ℕ → Walk → List ℕ → Act → Times → Tree Turn
-turn_as g now later w words act Once = once g now w words
-turn_as g now later w words act Skip = goes w words (skipped w act)
-turn_as g now later w words act Twice = bound (act_tree g now w words) (twice g later)
+abbrev pub step_as : Given → ℕ → ℕ → Workspace → List ℕ → Act → Times → Tree StepResult
+step_as g now later w words act Once = once g now w words
+step_as g now later w words act Skip = goes w words (skipped w act)
+step_as g now later w words act Twice = bound (act_tree g now w words) (twice g later)
 
-abbrev pub turn_at : Given → ℕ → ℕ → Walk → List ℕ → Option Act → Tree Turn
-turn_at g now later w words None = Ended (turn w words (aborted w.place.phase (Table w.place.index)))
-turn_at g now later w words (Some act) = Ask (Often (record { place = w.place; act = act })) (turn_as g now later w words act)
+abbrev pub step_at : Given → ℕ → ℕ → Workspace → List ℕ → Option Act → Tree StepResult
+step_at g now later w words None = Ended (step_result w words (aborted w.place.phase (Table w.place.index)))
+step_at g now later w words (Some act) = Ask (Often (record { place = w.place; act = act })) (step_as g now later w words act)
 
 -- a step: how often its act is made, the act, and the next place. The clock answers `now` to the act, and `later` where
 -- that is made once more
-abbrev pub turn_tree : Given → ℕ → ℕ → Walk → List ℕ → Tree Turn
-turn_tree g now later w words =
-    let v : Walk = record w { want = Nothing } in
-    turn_at g now later v words (site_of g.behavior v)
+abbrev pub traversal_step : Given → ℕ → ℕ → Workspace → List ℕ → Tree StepResult
+traversal_step g now later w words =
+    let v : Workspace = record w { want = Nothing } in
+    step_at g now later v words (site_of g.behavior v)
 
 -- for one answer of the clock the work goes like this; and for two, where the clock is asked again
 pub record Timed {S R : Type 0} (gives : S → (q : Question) → Answer q → S → Type 0) (told : Option ℕ) (tree : ℕ → Tree R) (s t : S) (x : R) : Type 0 where

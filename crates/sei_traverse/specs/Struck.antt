@@ -16,10 +16,10 @@ use Rattle.sei_stmt.specs.Passes.{notes_of}
 use Rattle.sei_pass.specs.declared.given.Which.TheVariants.{Reading}
 use Rattle.sei_pass.specs.State.{new_pass}
 use Rattle.sei_pass.specs.Steps.{machine_of}
-use Rattle.sei_traverse.specs.declared.walk.Walk.{Walk}
+use Rattle.sei_traverse.specs.declared.workspace.Workspace.{Workspace}
 use Rattle.sei_traverse.specs.Alike.{AlikeAt, AlikeLogs}
 use Rattle.sei_traverse.specs.Comes.{renoted, Comes}
-use Rattle.sei_traverse.specs.Errand.{Errand, first_setting, first_start, Follows, Whole}
+use Rattle.sei_traverse.specs.CallContext.{CallContext, first_setting, first_start, Follows, Whole}
 use Rattle.sei_traverse.specs.PassActs.{asked_behind, pass_of, first_machine, second_machine}
 use Rattle.sei_traverse.specs.Phases.{reply_of}
 use Rattle.sei_traverse.specs.Given.{given_of, setting_in}
@@ -31,23 +31,23 @@ abbrev pub relogged : Kept Change → Machine → Machine
 relogged log m = with_log m log
 
 -- what a note reads as, where it reads: a number of 64 bits, which is the told time, where one is told
-abbrev pub IsNoted : Errand → Option Coded → Type 0
+abbrev pub IsNoted : CallContext → Option Coded → Type 0
 IsNoted e note = (c : Coded) (v : ℕ) → note ≡ Some c → read_of c ≡ Some v → (v < 2 ^ 64) × Follows e.clock v
 
 -- the input is fit, and the wanted bucket is the call's
-pub record IsAimed (e : Errand) (w : Walk) : Type 0 where
+pub record IsAimed (e : CallContext) (w : Workspace) : Type 0 where
   pub fit : PassesGuard e
   pub wanted : w.wanted ≡ e.call.bucket
 
 -- what the questions of an honest run of so many statements, by a time and a slot, weigh as a first pass: those of its statements,
 -- and the test behind Halt that closes its phase
-abbrev pub run_questions : Errand → ℕ → ℕ → ℕ → ℕ
+abbrev pub run_questions : CallContext → ℕ → ℕ → ℕ → ℕ
 run_questions e time slot made = first_weighed (second_setting e) (renoted (notes_of time slot) (first_start e)) made + 1
 
 -- what holds of each traversal that comes to Enter: the words and the reply are those that an honest run on the
 -- words that were taken leaves, by the noted time and some slot, and at least as many questions were asked as its own weigh; the
 -- time is a number of 64 bits, and the told one, where one is told
-pub record IsHonestResult (e : Errand) (w : Walk) (words : List ℕ) (asked : ℕ) : Type 0 where
+pub record IsHonestResult (e : CallContext) (w : Workspace) (words : List ℕ) (asked : ℕ) : Type 0 where
   pub aimed : IsAimed e w
   pub time : ℕ
   pub slot : ℕ
@@ -66,7 +66,7 @@ pub record IsHonestResult (e : Errand) (w : Walk) (words : List ℕ) (asked : �
 -- one old word was misread, and logged so: but for its log all is as in an honest pass, at a time that the clock may tell,
 -- whose log is not longer than this one. This log leads from the words that were taken to those that stand, and changed no
 -- others
-pub record IsMisread (e : Errand) (w : Walk) (words : List ℕ) (asked : ℕ) : Type 0 where
+pub record IsMisread (e : CallContext) (w : Workspace) (words : List ℕ) (asked : ℕ) : Type 0 where
   pub aimed : IsAimed e w
   pub log : Kept Change
   pub room : log.room ≡ w.first_log.room
@@ -80,30 +80,30 @@ pub record IsMisread (e : Errand) (w : Walk) (words : List ℕ) (asked : ℕ) : 
   pub questions : number ≤ asked
 
 -- the log undoes all that it changed, and a noted time is as it may be; or one old word in the log was misread
-pub data FirstStruck (e : Errand) (w : Walk) (words : List ℕ) (asked : ℕ) : Type 0 where
+pub data FirstStruck (e : CallContext) (w : Workspace) (words : List ℕ) (asked : ℕ) : Type 0 where
   Restorable : IsNoted e w.notes.now → undone w.first_log.items words ≡ e.taken → FirstStruck e w words asked
   Misread : IsMisread e w words asked → FirstStruck e w words asked
 
 -- before the bucket is lent, nothing was made
-abbrev pub FirstStands : Errand → Walk → Option (List ℕ) → ℕ → Type 0
+abbrev pub FirstStands : CallContext → Workspace → Option (List ℕ) → ℕ → Type 0
 FirstStands e w None asked = FirstIsNew e w
 FirstStands e w (Some words) asked = FirstStruck e w words asked
 
-pub record StruckInFirst (e : Errand) (w : Walk) (lent : Option (List ℕ)) (asked : ℕ) : Type 0 where
+pub record StruckInFirst (e : CallContext) (w : Workspace) (lent : Option (List ℕ)) (asked : ℕ) : Type 0 where
   pub space : w.first.space ≡ e.space
   pub second : SecondIsNew e w
   pub stands : FirstStands e w lent asked
 
 -- before it
 
-pub record StruckInTake (e : Errand) (w : Walk) : Type 0 where
+pub record StruckInTake (e : CallContext) (w : Workspace) : Type 0 where
   pub first : FirstIsNew e w
   pub second : SecondIsNew e w
 
 -- the restoration
 
 -- the first pass was honest, and ended with this machine
-pub record WasHonest (e : Errand) (w : Walk) (end : Machine) (asked : ℕ) : Type 0 where
+pub record WasHonest (e : CallContext) (w : Workspace) (end : Machine) (asked : ℕ) : Type 0 where
   pub aimed : IsAimed e w
   pub time : ℕ
   pub made : ℕ
@@ -112,7 +112,7 @@ pub record WasHonest (e : Errand) (w : Walk) (end : Machine) (asked : ℕ) : Typ
   pub questions : first_questions e time made ≤ asked
 
 -- it was honest but for its log, which leads from the words that were taken to the same words
-pub record WasMisread (e : Errand) (w : Walk) (end : Machine) (asked : ℕ) : Type 0 where
+pub record WasMisread (e : CallContext) (w : Workspace) (end : Machine) (asked : ℕ) : Type 0 where
   pub aimed : IsAimed e w
   pub time : ℕ
   pub made : ℕ
@@ -123,12 +123,12 @@ pub record WasMisread (e : Errand) (w : Walk) (end : Machine) (asked : ℕ) : Ty
   pub questions : first_questions e time made ≤ asked
 
 -- the changes that are still to be undone
-abbrev pub pending : Walk → List Change
+abbrev pub pending : Workspace → List Change
 pending w = take (length w.first_log.items - w.place.index) w.first_log.items
 
 -- undoing what is pending gives the words that were taken, and a noted time has 64 bits; or the first log has a misread
 -- word; or a change that is not pending was not undone
-pub data RestoreStruck (e : Errand) (w : Walk) (words : List ℕ) (asked : ℕ) : Type 0 where
+pub data RestoreStruck (e : CallContext) (w : Workspace) (words : List ℕ) (asked : ℕ) : Type 0 where
   Restorable : IsNoted e w.notes.now → undone (pending w) words ≡ e.taken → RestoreStruck e w words asked
   Misread : (end : Machine) → WasMisread e w end asked → SameOff w.first_log.items words e.taken → RestoreStruck e w words asked
   Damaged : (end : Machine) → WasHonest e w end asked → (place : ℕ) (c : Change) → Stands w.first_log.items place c →
@@ -137,21 +137,21 @@ pub data RestoreStruck (e : Errand) (w : Walk) (words : List ℕ) (asked : ℕ) 
 -- the second pass
 
 -- where a pass starts, on these words and by these notes
-abbrev pub start_on : Errand → List ℕ → Notes → Machine
+abbrev pub start_on : CallContext → List ℕ → Notes → Machine
 start_on e words notes = machine_of (new_pass e.space) words (empty_kept Change e.space.log) notes
 
 -- the setting of a second pass for which this bucket is lent
-abbrev pub setting_on : Errand → ℕ → Setting
+abbrev pub setting_on : CallContext → ℕ → Setting
 setting_on e bucket = setting_in (given_of e.behavior e.input e.space (Some bucket)) Reading e.sealed 0
 
--- an honest second pass on these words, by the walk's notes, has come to where the walk stands
-abbrev pub ComesOn : Errand → Walk → List ℕ → List ℕ → Outcome → ℕ → Type 0
+-- an honest second pass on these words, by the workspace's notes, has come to where the workspace stands
+abbrev pub ComesOn : CallContext → Workspace → List ℕ → List ℕ → Outcome → ℕ → Type 0
 ComesOn e w found words o n = after (setting_on e w.wanted) (start_on e found w.notes) n ≡ record { machine = second_machine w words; outcome = o }
 
 -- it is honest on the words that were taken, by notes whose time has 64 bits, and has asked no less than a first pass would;
 -- or it is honest on words that a misread log or a change which was not undone left; or it was struck itself, and the first
 -- one was honest
-pub data SecondStruck (e : Errand) (w : Walk) (words : List ℕ) (o : Outcome) (asked : ℕ) : Type 0 where
+pub data SecondStruck (e : CallContext) (w : Workspace) (words : List ℕ) (o : Outcome) (asked : ℕ) : Type 0 where
   Good : IsNoted e w.notes.now → (n : ℕ) → ComesOn e w e.taken words o n →
       first_weighed (setting_on e w.wanted) (start_on e e.taken w.notes) n + asked_behind o ≤ asked → SecondStruck e w words o asked
   Misread : (end : Machine) → WasMisread e w end asked → (found : List ℕ) → SameOff w.first_log.items found e.taken → (n : ℕ) → ComesOn e w found words o n → SecondStruck e w words o asked
@@ -162,7 +162,7 @@ pub data SecondStruck (e : Errand) (w : Walk) (words : List ℕ) (o : Outcome) (
 -- the comparison
 
 -- all is well already; or the second pass ended as it may, and the changes below the index are the same in both logs
-pub data CompareStruck (e : Errand) (w : Walk) (words : List ℕ) (asked : ℕ) : Type 0 where
+pub data CompareStruck (e : CallContext) (w : Workspace) (words : List ℕ) (asked : ℕ) : Type 0 where
   Fine : IsHonestResult e w words asked → CompareStruck e w words asked
   Doubt : SecondStruck e w words Halted asked →
       ((place : ℕ) → place < w.place.index → AlikeAt (slice_get w.first_log.items place) (slice_get w.second_log.items place)) → CompareStruck e w words asked
@@ -170,28 +170,28 @@ pub data CompareStruck (e : Errand) (w : Walk) (words : List ℕ) (asked : ℕ) 
 -- the reading back
 
 -- the second pass was struck, and came to a log that says the same as the first one; so many words hold what it says
-pub record IsDoubted (e : Errand) (w : Walk) (words : List ℕ) (asked : ℕ) : Type 0 where
+pub record IsDoubted (e : CallContext) (w : Workspace) (words : List ℕ) (asked : ℕ) : Type 0 where
   pub end : Machine
   pub was : WasHonest e w end asked
   pub off : SameOff w.second_log.items words e.taken
   pub logs : AlikeLogs w.first_log.items w.second_log.items
   pub read : (place : ℕ) (c : Change) → place < w.place.index → Stands w.second_log.items place c → slice_get words c.address ≡ Some c.becomes
 
-pub data WordsStruck (e : Errand) (w : Walk) (words : List ℕ) (asked : ℕ) : Type 0 where
+pub data WordsStruck (e : CallContext) (w : Workspace) (words : List ℕ) (asked : ℕ) : Type 0 where
   Fine : IsHonestResult e w words asked → WordsStruck e w words asked
   Doubt : IsDoubted e w words asked → WordsStruck e w words asked
 
-pub record VerifyStruck (e : Errand) (w : Walk) (words : List ℕ) (asked : ℕ) : Type 0 where
+pub record VerifyStruck (e : CallContext) (w : Workspace) (words : List ℕ) (asked : ℕ) : Type 0 where
   pub stand : WordsStruck e w words asked
   pub outputs : w.first.bytes.items ≡ reply_of w
 
 -- behind them
 
-pub record HasCopy (e : Errand) (w : Walk) (words : List ℕ) (asked : ℕ) : Type 0 where
+pub record HasCopy (e : CallContext) (w : Workspace) (words : List ℕ) (asked : ℕ) : Type 0 where
   pub answers : IsHonestResult e w words asked
   pub wire : w.wire.items ≡ reply_of w
 
-pub record HasCopyOfSome (e : Errand) (w : Walk) (asked : ℕ) : Type 0 where
+pub record HasCopyOfSome (e : CallContext) (w : Workspace) (asked : ℕ) : Type 0 where
   pub words : List ℕ
   pub answered : HasCopy e w words asked
 
@@ -201,7 +201,7 @@ On None holds = ⊥
 On (Some words) holds = holds words
 
 -- the cases, by phase. In Guard none stands: a strike there leads out of it, or to another number of closed phases
-abbrev pub StruckIn : Errand → Walk → Option (List ℕ) → ℕ → Phase → Type 0
+abbrev pub StruckIn : CallContext → Workspace → Option (List ℕ) → ℕ → Phase → Type 0
 StruckIn e w lent asked Guard = ⊥
 StruckIn e w lent asked Take = StruckInTake e w
 StruckIn e w lent asked First = StruckInFirst e w lent asked

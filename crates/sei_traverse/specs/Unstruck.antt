@@ -13,35 +13,35 @@ use Rattle.sei_stmt.specs.Machine.Outcome.{Next}
 use Rattle.sei_pass.specs.State.{new_pass}
 use Rattle.sei_traverse.specs.declared.turned.Want.{Want}
 use Rattle.sei_traverse.specs.declared.turned.Want.TheVariants.{Nothing, Take as WantTake, Enter as WantEnter, Give as WantGive}
-use Rattle.sei_traverse.specs.declared.walk.Walk.{Walk}
+use Rattle.sei_traverse.specs.declared.workspace.Workspace.{Workspace}
 use Rattle.sei_traverse.specs.Phases.{send_want}
 use Rattle.sei_traverse.specs.Acts.{at}
 use Rattle.sei_traverse.specs.PassActs.{pass_of, first_machine, second_machine}
 use Rattle.sei_traverse.specs.Comes.{at_time, again, renoted, Comes}
-use Rattle.sei_traverse.specs.Errand.{Errand, first_setting, first_start, no_notes, Follows, Whole}
+use Rattle.sei_traverse.specs.CallContext.{CallContext, first_setting, first_start, no_notes, Follows, Whole}
 
--- the call that is sealed is the errand's, and as many phases are closed as stand before this one
-pub record IsOf (e : Errand) (w : Walk) (phase : Phase) : Type 0 where
+-- the call that is sealed is the call context's, and as many phases are closed as stand before this one
+pub record IsOf (e : CallContext) (w : Workspace) (phase : Phase) : Type 0 where
   pub sealed : w.sealed ≡ e.sealed
   pub gate : w.gate.done ≡ phase_number phase
 
 -- a pass that did not begin
-pub record FirstIsNew (e : Errand) (w : Walk) : Type 0 where
+pub record FirstIsNew (e : CallContext) (w : Workspace) : Type 0 where
   pub first : w.first ≡ new_pass e.space
   pub first_log : w.first_log ≡ empty_kept Change e.space.log
   pub notes : w.notes ≡ no_notes
 
-pub record SecondIsNew (e : Errand) (w : Walk) : Type 0 where
+pub record SecondIsNew (e : CallContext) (w : Workspace) : Type 0 where
   pub second : w.second ≡ new_pass e.space
   pub second_log : w.second_log ≡ empty_kept Change e.space.log
 
 -- a pass that ended with this machine
-pub record FirstIsDone (e : Errand) (w : Walk) (end : Machine) : Type 0 where
+pub record FirstIsDone (e : CallContext) (w : Workspace) (end : Machine) : Type 0 where
   pub first : w.first ≡ pass_of (new_pass e.space) end
   pub first_log : w.first_log ≡ end.log
   pub notes : w.notes ≡ end.notes
 
-pub record SecondIsDone (e : Errand) (w : Walk) (end : Machine) : Type 0 where
+pub record SecondIsDone (e : CallContext) (w : Workspace) (end : Machine) : Type 0 where
   pub second : w.second ≡ pass_of (new_pass e.space) end
   pub second_log : w.second_log ≡ end.log
 
@@ -65,7 +65,7 @@ before_enter n k = 7 + 2 * n + 3 * k
 -- the cases, by phase. `lent` are the words that are lent, `steps` is the number of steps so far, and `asked` a number
 -- of questions that were asked at least
 
-pub record InGuard (e : Errand) (w : Walk) (steps asked : ℕ) : Type 0 where
+pub record InGuard (e : CallContext) (w : Workspace) (steps asked : ℕ) : Type 0 where
   pub is : IsOf e w Guard
   pub index : w.place.index ≡ 0
   pub first : FirstIsNew e w
@@ -74,11 +74,11 @@ pub record InGuard (e : Errand) (w : Walk) (steps asked : ℕ) : Type 0 where
   pub questions : asked ≡ 0
 
 -- at the second step, the call's bucket is wanted
-abbrev pub WantedAt : Errand → ℕ → ℕ → Type 0
+abbrev pub WantedAt : CallContext → ℕ → ℕ → Type 0
 WantedAt e zero wanted = ⊤
 WantedAt e (suc index) wanted = wanted ≡ e.call.bucket
 
-pub record InTake (e : Errand) (w : Walk) (steps asked : ℕ) : Type 0 where
+pub record InTake (e : CallContext) (w : Workspace) (steps asked : ℕ) : Type 0 where
   pub is : IsOf e w Take
   pub index : w.place.index ≤ 1
   pub wanted : WantedAt e w.place.index w.wanted
@@ -88,35 +88,35 @@ pub record InTake (e : Errand) (w : Walk) (steps asked : ℕ) : Type 0 where
   pub questions : asked ≡ 0
 
 -- before its first statement, no words need to be lent yet; then an honest first pass has come here
-pub record FirstWaits (e : Errand) (w : Walk) (steps asked : ℕ) : Type 0 where
+pub record FirstWaits (e : CallContext) (w : Workspace) (steps asked : ℕ) : Type 0 where
   pub index : w.place.index ≡ 0
   pub first : FirstIsNew e w
   pub number : steps ≤ 3
   pub questions : asked ≡ 0
 
-pub record FirstRuns (e : Errand) (w : Walk) (words : List ℕ) (steps asked : ℕ) : Type 0 where
+pub record FirstRuns (e : CallContext) (w : Workspace) (words : List ℕ) (steps asked : ℕ) : Type 0 where
   pub space : w.first.space ≡ e.space
   pub made : ℕ
   pub comes : Comes (first_setting e) (first_start e) made (record { machine = first_machine w words; outcome = Next w.place.index }) asked
   pub told : Follows e.clock comes.time
   pub number : steps ≤ 3 + made
 
-abbrev pub FirstAt : Errand → Walk → Option (List ℕ) → ℕ → ℕ → Type 0
+abbrev pub FirstAt : CallContext → Workspace → Option (List ℕ) → ℕ → ℕ → Type 0
 FirstAt e w None steps asked = FirstWaits e w steps asked
 FirstAt e w (Some words) steps asked = FirstRuns e w words steps asked
 
-pub record InFirst (e : Errand) (w : Walk) (lent : Option (List ℕ)) (steps asked : ℕ) : Type 0 where
+pub record InFirst (e : CallContext) (w : Workspace) (lent : Option (List ℕ)) (steps asked : ℕ) : Type 0 where
   pub is : IsOf e w First
   pub second : SecondIsNew e w
   pub at : FirstAt e w lent steps asked
 
 -- what the questions of a whole first pass of so many statements at a time weigh: those of its statements, and the test behind Halt
 -- that closes its phase
-abbrev pub first_questions : Errand → ℕ → ℕ → ℕ
+abbrev pub first_questions : CallContext → ℕ → ℕ → ℕ
 first_questions e time n = weighed_after (at_time (first_setting e) time) (first_start e) n + 1
 
 -- as many of its changes are undone as the index says
-pub record InRestore (e : Errand) (w : Walk) (lent : Option (List ℕ)) (steps asked : ℕ) : Type 0 where
+pub record InRestore (e : CallContext) (w : Workspace) (lent : Option (List ℕ)) (steps asked : ℕ) : Type 0 where
   pub is : IsOf e w Restore
   pub time : ℕ
   pub made : ℕ
@@ -130,7 +130,7 @@ pub record InRestore (e : Errand) (w : Walk) (lent : Option (List ℕ)) (steps a
   pub questions : first_questions e time made ≤ asked
 
 -- an honest second pass, by the notes of the first, has come here behind n statements
-pub record InSecond (e : Errand) (w : Walk) (lent : Option (List ℕ)) (steps asked : ℕ) : Type 0 where
+pub record InSecond (e : CallContext) (w : Workspace) (lent : Option (List ℕ)) (steps asked : ℕ) : Type 0 where
   pub is : IsOf e w Second
   pub time : ℕ
   pub made : ℕ
@@ -147,14 +147,14 @@ pub record InSecond (e : Errand) (w : Walk) (lent : Option (List ℕ)) (steps as
   pub questions : first_questions e time made + weighed_after (again (first_setting e)) (renoted end.notes (first_start e)) n ≤ asked
 
 -- both passes have come to the same end, and so have the words
-pub record InBoth (e : Errand) (w : Walk) (lent : Option (List ℕ)) (time made : ℕ) (end : Machine) (asked : ℕ) : Type 0 where
+pub record InBoth (e : CallContext) (w : Workspace) (lent : Option (List ℕ)) (time made : ℕ) (end : Machine) (asked : ℕ) : Type 0 where
   pub whole : Whole e time made end
   pub first : FirstIsDone e w end
   pub second : SecondIsDone e w end
   pub words : lent ≡ Some end.words
   pub questions : 2 * first_questions e time made ≤ asked
 
-pub record InCompare (e : Errand) (w : Walk) (lent : Option (List ℕ)) (steps asked : ℕ) : Type 0 where
+pub record InCompare (e : CallContext) (w : Workspace) (lent : Option (List ℕ)) (steps asked : ℕ) : Type 0 where
   pub is : IsOf e w Compare
   pub time : ℕ
   pub made : ℕ
@@ -164,10 +164,10 @@ pub record InCompare (e : Errand) (w : Walk) (lent : Option (List ℕ)) (steps a
   pub number : steps ≤ before_compare made (length end.log.items) + w.place.index
 
 -- behind the last changed word, the copy for the wire is made
-abbrev pub CopyAt : Walk → ℕ → List ℕ → Type 0
+abbrev pub CopyAt : Workspace → ℕ → List ℕ → Type 0
 CopyAt w k bytes = w.place.index ≡ k + 1 → w.wire.items ≡ bytes
 
-pub record InVerify (e : Errand) (w : Walk) (lent : Option (List ℕ)) (steps asked : ℕ) : Type 0 where
+pub record InVerify (e : CallContext) (w : Workspace) (lent : Option (List ℕ)) (steps asked : ℕ) : Type 0 where
   pub is : IsOf e w Verify
   pub time : ℕ
   pub made : ℕ
@@ -178,7 +178,7 @@ pub record InVerify (e : Errand) (w : Walk) (lent : Option (List ℕ)) (steps as
   pub number : steps ≤ before_verify made (length end.log.items) + w.place.index
 
 -- all is compared: the copy for the wire is the reply
-pub record InEnter (e : Errand) (w : Walk) (lent : Option (List ℕ)) (steps asked : ℕ) : Type 0 where
+pub record InEnter (e : CallContext) (w : Workspace) (lent : Option (List ℕ)) (steps asked : ℕ) : Type 0 where
   pub is : IsOf e w Enter
   pub time : ℕ
   pub made : ℕ
@@ -188,7 +188,7 @@ pub record InEnter (e : Errand) (w : Walk) (lent : Option (List ℕ)) (steps ask
   pub copy : w.wire.items ≡ end.bytes.items
   pub number : steps ≤ before_enter made (length end.log.items)
 
-pub record InGive (e : Errand) (w : Walk) (lent : Option (List ℕ)) (steps asked : ℕ) : Type 0 where
+pub record InGive (e : CallContext) (w : Workspace) (lent : Option (List ℕ)) (steps asked : ℕ) : Type 0 where
   pub is : IsOf e w Give
   pub time : ℕ
   pub made : ℕ
@@ -199,7 +199,7 @@ pub record InGive (e : Errand) (w : Walk) (lent : Option (List ℕ)) (steps aske
   pub number : steps ≤ before_enter made (length end.log.items) + 1
 
 -- the reply is made, and the copy for the wire
-pub record HasOutput (e : Errand) (w : Walk) (time made : ℕ) (end : Machine) (asked : ℕ) : Type 0 where
+pub record HasOutput (e : CallContext) (w : Workspace) (time made : ℕ) (end : Machine) (asked : ℕ) : Type 0 where
   pub whole : Whole e time made end
   pub second : SecondIsDone e w end
   pub notes : w.notes ≡ end.notes
@@ -212,7 +212,7 @@ StillAre None words = ⊤
 StillAre (Some lent) words = lent ≡ words
 
 -- the bucket is given back
-pub record InSend (e : Errand) (w : Walk) (lent : Option (List ℕ)) (steps asked : ℕ) : Type 0 where
+pub record InSend (e : CallContext) (w : Workspace) (lent : Option (List ℕ)) (steps asked : ℕ) : Type 0 where
   pub is : IsOf e w Send
   pub time : ℕ
   pub made : ℕ
@@ -222,7 +222,7 @@ pub record InSend (e : Errand) (w : Walk) (lent : Option (List ℕ)) (steps aske
   pub words : StillAre lent end.words
   pub number : steps ≤ before_enter made (length end.log.items) + 2
 
-pub record InDone (e : Errand) (w : Walk) (steps asked : ℕ) : Type 0 where
+pub record InDone (e : CallContext) (w : Workspace) (steps asked : ℕ) : Type 0 where
   pub is : IsOf e w Done
   pub time : ℕ
   pub made : ℕ
@@ -232,7 +232,7 @@ pub record InDone (e : Errand) (w : Walk) (steps asked : ℕ) : Type 0 where
   pub number : steps ≤ before_enter made (length end.log.items) + 3
 
 -- at its end
-pub record IsFinished (e : Errand) (w : Walk) (steps asked : ℕ) : Type 0 where
+pub record IsFinished (e : CallContext) (w : Workspace) (steps asked : ℕ) : Type 0 where
   pub place : w.place ≡ at Done 1
   pub gate : w.gate.done ≡ 11
   pub time : ℕ
@@ -241,7 +241,7 @@ pub record IsFinished (e : Errand) (w : Walk) (steps asked : ℕ) : Type 0 where
   pub answered : HasOutput e w time made end asked
   pub number : steps ≤ before_enter made (length end.log.items) + 4
 
-abbrev pub CleanIn : Errand → Walk → Option (List ℕ) → ℕ → ℕ → Phase → Type 0
+abbrev pub CleanIn : CallContext → Workspace → Option (List ℕ) → ℕ → ℕ → Phase → Type 0
 CleanIn e w lent steps asked Guard = InGuard e w steps asked
 CleanIn e w lent steps asked Take = InTake e w steps asked
 CleanIn e w lent steps asked First = InFirst e w lent steps asked
@@ -255,11 +255,11 @@ CleanIn e w lent steps asked Send = InSend e w lent steps asked
 CleanIn e w lent steps asked Done = InDone e w steps asked
 
 -- what the act of a phase wants without a strike
-abbrev pub take_want : Errand → ℕ → Want
+abbrev pub take_want : CallContext → ℕ → Want
 take_want e zero = Nothing
 take_want e (suc index) = WantTake e.call.bucket
 
-abbrev pub want_in : Errand → Walk → Phase → Want
+abbrev pub want_in : CallContext → Workspace → Phase → Want
 want_in e w Take = take_want e w.place.index
 want_in e w Enter = WantEnter
 want_in e w Give = WantGive
@@ -285,5 +285,5 @@ NextIn Done index next = next ≡ Done
 NextIn phase index next = IsLent next
 
 -- a traversal that nothing struck, at one of its steps
-pub record Clean (e : Errand) (w : Walk) (lent : Option (List ℕ)) (steps asked : ℕ) : Type 0 where
+pub record Clean (e : CallContext) (w : Workspace) (lent : Option (List ℕ)) (steps asked : ℕ) : Type 0 where
   pub in_phase : CleanIn e w lent steps asked w.place.phase

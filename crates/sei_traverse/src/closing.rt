@@ -1,12 +1,12 @@
 //! The acts behind the last comparison: each closes its phase.
 ghost use Rattle.std.specs.Prelude.{◌≡◌, ℕ, List};
 ghost use Rattle.sei_fault.specs.Tree.{Runs};
-ghost use Rattle.sei_traverse.specs.Walks.{Stays};
+ghost use Rattle.sei_traverse.specs.Workspaces.{Stays};
 ghost use Rattle.sei_traverse.specs.Acts.{acted};
 ghost use Rattle.sei_traverse.specs.Phases.{enter_tree, give_tree, send_want, send_tree, done_tree};
 
 use crate::turned::Want;
-use crate::walk::{Ending, Walk};
+use crate::workspace::{Ending, Workspace};
 use sei_fault::{Core, Phase, Place};
 
 /// What is wanted for a reply: one that is empty is not sent.
@@ -20,7 +20,7 @@ fn send_want(reply: &[u8]) -> Want
     }
 }
 
-impl Walk {
+impl Workspace {
     /// Enter.
     pub fn enter<K: Core>(&mut self, core: &mut K) -> Ending
         ensures act { (words : List ℕ) → Runs K.gives (enter_tree self.old words) core.old core.new (acted self.new words result) }

@@ -2,16 +2,16 @@
 ghost use Rattle.std.specs.Prelude.{◌≡◌, ℕ, ◌+◌, ◌^◌, ◌<◌, List};
 ghost use Rattle.sei_compare.specs.Comparing.{entry_tree, codes_tree};
 ghost use Rattle.sei_fault.specs.Tree.{Runs, bound};
-ghost use Rattle.sei_traverse.specs.Walks.{Stays};
+ghost use Rattle.sei_traverse.specs.Workspaces.{Stays};
 ghost use Rattle.sei_traverse.specs.Acts.{acted};
 ghost use Rattle.sei_traverse.specs.Phases.{compared, compare_tree, entries_to, outputs_to};
 
 use crate::turned::Want;
-use crate::walk::{Ending, Walk};
+use crate::workspace::{Ending, Workspace};
 use sei_compare::{codes, entry};
 use sei_fault::{AbortCause, Core, Phase, Place};
 
-impl Walk {
+impl Workspace {
     /// How many entries the longer log has.
     pub fn compared(&self) -> u64
         ensures { result ≡ compared self.now }

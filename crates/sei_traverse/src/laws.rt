@@ -4,10 +4,10 @@ ghost use Rattle.sei_fault.specs.Counts.{Counts};
 ghost use Rattle.sei_fault.specs.declared.place.Phase.{Phase};
 ghost use Rattle.sei_pass.specs.declared.spaces.PassSpace.{PassSpace};
 ghost use Rattle.sei_pass.specs.declared.given.Sealed.{Sealed};
-ghost use Rattle.sei_words.specs.Loan.{place_of};
+ghost use Rattle.sei_words.specs.LentBucket.{place_of};
 ghost use Rattle.sei_traverse.specs.Bounds.{most_steps, StepsWithin, StepsAfter};
-ghost use Rattle.sei_traverse.specs.Errand.{Errand, IsErrand};
-ghost use Rattle.sei_traverse.specs.Facts.{Facts, LendsWanted, Isolates};
+ghost use Rattle.sei_traverse.specs.CallContext.{CallContext, IsCallContext};
+ghost use Rattle.sei_traverse.specs.FaultInvariant.{FaultInvariant, LendsWanted, Isolates};
 ghost use Rattle.sei_traverse.specs.Noting.{NotesTime};
 ghost use Rattle.sei_traverse.specs.OnWay.{lent_words, Lends, TellsAs, OnWay, StaysOnWay, AtEnd};
 ghost use Rattle.sei_traverse.specs.Phases.{reply_of};
@@ -22,26 +22,26 @@ ghost use Rattle.sei_traverse.specs.Wanting.{Steps, WantsOnce, wanted_in, all_wa
 ghost use Rattle.sei_traverse.specs.declared.turned.State.{State};
 ghost use Rattle.sei_traverse.specs.declared.turned.Turned.{Turned};
 ghost use Rattle.sei_traverse.specs.declared.turned.Want.{Want};
-ghost use Rattle.sei_traverse.specs.declared.walk.Walk.{Walk};
+ghost use Rattle.sei_traverse.specs.declared.workspace.Workspace.{Workspace};
 
 use sei_fault::Core;
 use sei_stmt::Modeled;
 
-/// A traversal that begins for an errand is on its way. It stays so where the words that were taken
+/// A traversal that begins for a call context is on its way. It stays so where the words that were taken
 /// are lent when they are wanted, and where they are lent no more once the bucket is given back.
 pub fn traversals_are_on_their_way()
-    ensures begins { (e : Errand) (c : Counts) → OnWay e (begun_traversal e.space e.sealed) None c c }
-    ensures lends { (e : Errand) (t : TraversalState) (begin now : Counts) → IsErrand e → t.walk.place.phase ≡ Phase.First →
+    ensures begins { (e : CallContext) (c : Counts) → OnWay e (begun_traversal e.space e.sealed) None c c }
+    ensures lends { (e : CallContext) (t : TraversalState) (begin now : Counts) → IsCallContext e → t.workspace.place.phase ≡ Phase.First →
         OnWay e t None begin now → OnWay e t (Some e.taken) begin now }
-    ensures gives { (e : Errand) (t : TraversalState) (words : List ℕ) (begin now : Counts) → t.walk.place.phase ≡ Phase.Send →
+    ensures gives { (e : CallContext) (t : TraversalState) (words : List ℕ) (begin now : Counts) → t.workspace.place.phase ≡ Phase.Send →
         OnWay e t (Some words) begin now → OnWay e t None begin now }
 {}
 
 /// Without a strike a traversal comes to its end: it makes no more steps than this.
 pub fn traversals_end()
-    ensures running { (e : Errand) (t : TraversalState) (lent : Option (List ℕ)) (begin now : Counts) → IsErrand e → OnWay e t lent begin now → now.struck ≡ begin.struck →
+    ensures running { (e : CallContext) (t : TraversalState) (lent : Option (List ℕ)) (begin now : Counts) → IsCallContext e → OnWay e t lent begin now → now.struck ≡ begin.struck →
         t.steps ≤ 2 * e.space.budget + 3 * e.space.log + 11 }
-    ensures ended { (e : Errand) (t : TraversalState) (begin now : Counts) → AtEnd e t begin now → now.struck ≡ begin.struck →
+    ensures ended { (e : CallContext) (t : TraversalState) (begin now : Counts) → AtEnd e t begin now → now.struck ≡ begin.struck →
         t.steps ≤ 2 * e.space.budget + 3 * e.space.log + 11 }
 {}
 
@@ -51,12 +51,12 @@ pub fn traversals_end()
 /// phases then, and nine. Where no strike fell, it is on its way. That it stays known after each step is
 /// the law `one_strike_is_isolated`, and the clause `isolated` of `Traversal::step`.
 pub fn faults_are_isolated()
-    ensures begins { (e : Errand) (c : Counts) → Facts e (begun_traversal e.space e.sealed) None c c }
-    ensures lends { (e : Errand) (t : TraversalState) (begin now : Counts) → IsTrusted e → t.walk.gate.done ≡ 2 →
-        Facts e t None begin now → Facts e t (Some e.taken) begin now }
-    ensures gives { (e : Errand) (t : TraversalState) (words : List ℕ) (begin now : Counts) → t.walk.gate.done ≡ 9 →
-        Facts e t (Some words) begin now → Facts e t None begin now }
-    ensures on_way { (e : Errand) (t : TraversalState) (lent : Option (List ℕ)) (begin now : Counts) → Facts e t lent begin now → OnWay e t lent begin now }
+    ensures begins { (e : CallContext) (c : Counts) → FaultInvariant e (begun_traversal e.space e.sealed) None c c }
+    ensures lends { (e : CallContext) (t : TraversalState) (begin now : Counts) → IsTrusted e → t.workspace.gate.done ≡ 2 →
+        FaultInvariant e t None begin now → FaultInvariant e t (Some e.taken) begin now }
+    ensures gives { (e : CallContext) (t : TraversalState) (words : List ℕ) (begin now : Counts) → t.workspace.gate.done ≡ 9 →
+        FaultInvariant e t (Some words) begin now → FaultInvariant e t None begin now }
+    ensures on_way { (e : CallContext) (t : TraversalState) (lent : Option (List ℕ)) (begin now : Counts) → FaultInvariant e t lent begin now → OnWay e t lent begin now }
 {}
 
 /// One strike is isolated, over the definition of a step alone, for every core that keeps its law, every
@@ -65,14 +65,14 @@ pub fn faults_are_isolated()
 /// it aborts only if a strike fell, and is refused only before `Take` is closed. With one strike at most
 /// the number of steps stays bounded; and without one the traversal stays on its way.
 pub fn one_strike_is_isolated<K: Core>()
-    ensures isolated { (told : Option ℕ) (behavior : Behavior) (input : List ℕ) (x y : On K) (state : State) → StepsTo K.gives told behavior input x y state → (e : Errand) (begin : Counts) →
-        IsTrusted e → TellsAs e.clock told → e.behavior ≡ behavior → e.input ≡ input → LendsWanted x.traversal.walk x.lent → Facts e x.traversal (lent_words x.lent) begin (K.counts x.core) →
-        (K.counts y.core).struck ≤ begin.struck + 1 → Isolates e x.traversal y.traversal x.lent y.lent begin (K.counts y.core) y.traversal.walk.want state }
+    ensures isolated { (told : Option ℕ) (behavior : Behavior) (input : List ℕ) (x y : On K) (state : State) → StepsTo K.gives told behavior input x y state → (e : CallContext) (begin : Counts) →
+        IsTrusted e → TellsAs e.clock told → e.behavior ≡ behavior → e.input ≡ input → LendsWanted x.traversal.workspace x.lent → FaultInvariant e x.traversal (lent_words x.lent) begin (K.counts x.core) →
+        (K.counts y.core).struck ≤ begin.struck + 1 → Isolates e x.traversal y.traversal x.lent y.lent begin (K.counts y.core) y.traversal.workspace.want state }
     ensures within { (told : Option ℕ) (behavior : Behavior) (input : List ℕ) (x y : On K) (state : State) → StepsTo K.gives told behavior input x y state → (begin : Counts) →
         IsTraversal x.traversal → StepsWithin x.traversal begin (K.counts x.core) → StepsAfter y.traversal begin (K.counts y.core) state }
-    ensures on_way { (told : Option ℕ) (behavior : Behavior) (input : List ℕ) (x y : On K) (state : State) → StepsTo K.gives told behavior input x y state → (e : Errand) (begin : Counts) →
-        IsErrand e → TellsAs e.clock told → e.behavior ≡ behavior → e.input ≡ input → Lends e x.traversal.walk.place.phase x.lent → OnWay e x.traversal (lent_words x.lent) begin (K.counts x.core) →
-        StaysOnWay e x.traversal y.traversal (lent_words y.lent) begin (K.counts y.core) y.traversal.walk.want state }
+    ensures on_way { (told : Option ℕ) (behavior : Behavior) (input : List ℕ) (x y : On K) (state : State) → StepsTo K.gives told behavior input x y state → (e : CallContext) (begin : Counts) →
+        IsCallContext e → TellsAs e.clock told → e.behavior ≡ behavior → e.input ≡ input → Lends e x.traversal.workspace.place.phase x.lent → OnWay e x.traversal (lent_words x.lent) begin (K.counts x.core) →
+        StaysOnWay e x.traversal y.traversal (lent_words y.lent) begin (K.counts y.core) y.traversal.workspace.want state }
 {}
 
 /// Over all steps of a traversal that are isolated, `Take`, `Enter`, `Give` and `Send` are wanted in this
@@ -80,22 +80,22 @@ pub fn one_strike_is_isolated<K: Core>()
 /// finished, all of them were wanted, but for `Send` where its reply is empty; and where it is refused,
 /// none was.
 pub fn wants_come_once()
-    ensures once { (e : Errand) (begin : Counts) (wants : List Want) (t : TraversalState) (state : State) → Steps e begin wants t state → WantsOnce e wants }
-    ensures finished { (e : Errand) (begin : Counts) (wants : List Want) (t : TraversalState) → Steps e begin wants t State.Finished →
-        wanted_in wants ≡ all_wants e.call.bucket (reply_of t.walk) }
-    ensures refused { (e : Errand) (begin : Counts) (wants : List Want) (t : TraversalState) → Steps e begin wants t State.Refused → wanted_in wants ≡ [] }
+    ensures once { (e : CallContext) (begin : Counts) (wants : List Want) (t : TraversalState) (state : State) → Steps e begin wants t state → WantsOnce e wants }
+    ensures finished { (e : CallContext) (begin : Counts) (wants : List Want) (t : TraversalState) → Steps e begin wants t State.Finished →
+        wanted_in wants ≡ all_wants e.call.bucket (reply_of t.workspace) }
+    ensures refused { (e : CallContext) (begin : Counts) (wants : List Want) (t : TraversalState) → Steps e begin wants t State.Refused → wanted_in wants ≡ [] }
 {}
 
 /// What each step keeps, a run of many steps keeps: what is sealed, the space and the place of what is
 /// lent. Its steps are counted; it notes no other time than the clock's; and no question is taken back
 /// over it, nor a strike, nor fall more strikes than there is room for.
 pub fn runs_keep_what_steps_keep<K: Core>()
-    ensures sealed { (told : Option ℕ) (behavior : Behavior) (input : List ℕ) (n : ℕ) (x z : On K) (t : Turned) → RunsOn K.gives K.counts told behavior input n x z t → z.traversal.walk.sealed ≡ x.traversal.walk.sealed }
+    ensures sealed { (told : Option ℕ) (behavior : Behavior) (input : List ℕ) (n : ℕ) (x z : On K) (t : Turned) → RunsOn K.gives K.counts told behavior input n x z t → z.traversal.workspace.sealed ≡ x.traversal.workspace.sealed }
     ensures space { (told : Option ℕ) (behavior : Behavior) (input : List ℕ) (n : ℕ) (x z : On K) (t : Turned) → RunsOn K.gives K.counts told behavior input n x z t → z.traversal.space ≡ x.traversal.space }
     ensures lent { (told : Option ℕ) (behavior : Behavior) (input : List ℕ) (n : ℕ) (x z : On K) (t : Turned) → RunsOn K.gives K.counts told behavior input n x z t → place_of z.lent ≡ place_of x.lent }
     ensures steps { (told : Option ℕ) (behavior : Behavior) (input : List ℕ) (n : ℕ) (x z : On K) (t : Turned) → RunsOn K.gives K.counts told behavior input n x z t →
         x.traversal.steps ≤ 2 ^ 64 - 1 → z.traversal.steps ≡ min (x.traversal.steps + suc n) (2 ^ 64 - 1) }
-    ensures noted { (told : Option ℕ) (behavior : Behavior) (input : List ℕ) (n : ℕ) (x z : On K) (t : Turned) → RunsOn K.gives K.counts told behavior input n x z t → NotesTime told x.traversal.walk.notes.now z.traversal.walk.notes.now }
+    ensures noted { (told : Option ℕ) (behavior : Behavior) (input : List ℕ) (n : ℕ) (x z : On K) (t : Turned) → RunsOn K.gives K.counts told behavior input n x z t → NotesTime told x.traversal.workspace.notes.now z.traversal.workspace.notes.now }
     ensures asked { (told : Option ℕ) (behavior : Behavior) (input : List ℕ) (n : ℕ) (x z : On K) (t : Turned) → RunsOn K.gives K.counts told behavior input n x z t → min (K.counts x.core).asked (2 ^ 128 - 1) ≤ (K.counts z.core).asked }
     ensures struck { (told : Option ℕ) (behavior : Behavior) (input : List ℕ) (n : ℕ) (x z : On K) (t : Turned) → RunsOn K.gives K.counts told behavior input n x z t → (K.counts x.core).struck ≤ (K.counts z.core).struck }
     ensures room { (told : Option ℕ) (behavior : Behavior) (input : List ℕ) (n : ℕ) (x z : On K) (t : Turned) → RunsOn K.gives K.counts told behavior input n x z t →
@@ -106,9 +106,9 @@ pub fn runs_keep_what_steps_keep<K: Core>()
 /// unless a strike fell in it.
 pub fn clocks_are_noted<K: Core>()
     ensures step { (told : Option ℕ) (behavior : Behavior) (input : List ℕ) (x y : On K) (t : Turned) → Makes K.gives K.counts told behavior input x y t → (K.counts y.core).struck ≡ (K.counts x.core).struck →
-        NotesTime told x.traversal.walk.notes.now y.traversal.walk.notes.now }
+        NotesTime told x.traversal.workspace.notes.now y.traversal.workspace.notes.now }
     ensures run { (told : Option ℕ) (behavior : Behavior) (input : List ℕ) (n : ℕ) (x z : On K) (t : Turned) → RunsOn K.gives K.counts told behavior input n x z t → (K.counts z.core).struck ≡ (K.counts x.core).struck →
-        NotesTime told x.traversal.walk.notes.now z.traversal.walk.notes.now }
+        NotesTime told x.traversal.workspace.notes.now z.traversal.workspace.notes.now }
 {}
 
 /// A run of many steps goes as its steps do. With one strike at most its steps are bounded. From a
@@ -118,14 +118,14 @@ pub fn clocks_are_noted<K: Core>()
 pub fn runs_go_as_steps_go<K: Core>()
     ensures within { (told : Option ℕ) (behavior : Behavior) (input : List ℕ) (n : ℕ) (x z : On K) (t : Turned) → RunsOn K.gives K.counts told behavior input n x z t →
         (begin : Counts) → IsTraversal x.traversal → StepsWithin x.traversal begin (K.counts x.core) → StepsAfter z.traversal begin (K.counts z.core) t.state }
-    ensures on_way { (told : Option ℕ) (behavior : Behavior) (input : List ℕ) (n : ℕ) (x z : On K) (t : Turned) (r : RunsOn K.gives K.counts told behavior input n x z t) (e : Errand) (begin : Counts) →
-        IsErrand e → TellsAs e.clock told → e.behavior ≡ behavior → e.input ≡ input → Lends e x.traversal.walk.place.phase x.lent → OnWay e x.traversal (lent_words x.lent) begin (K.counts x.core) →
+    ensures on_way { (told : Option ℕ) (behavior : Behavior) (input : List ℕ) (n : ℕ) (x z : On K) (t : Turned) (r : RunsOn K.gives K.counts told behavior input n x z t) (e : CallContext) (begin : Counts) →
+        IsCallContext e → TellsAs e.clock told → e.behavior ≡ behavior → e.input ≡ input → Lends e x.traversal.workspace.place.phase x.lent → OnWay e x.traversal (lent_words x.lent) begin (K.counts x.core) →
         StaysOnWay e r.last.traversal z.traversal (lent_words z.lent) begin (K.counts z.core) t.want t.state }
-    ensures isolated { (told : Option ℕ) (behavior : Behavior) (input : List ℕ) (n : ℕ) (x z : On K) (t : Turned) (r : RunsOn K.gives K.counts told behavior input n x z t) (e : Errand) (begin : Counts) →
-        IsTrusted e → TellsAs e.clock told → e.behavior ≡ behavior → e.input ≡ input → LendsWanted x.traversal.walk x.lent → Facts e x.traversal (lent_words x.lent) begin (K.counts x.core) →
+    ensures isolated { (told : Option ℕ) (behavior : Behavior) (input : List ℕ) (n : ℕ) (x z : On K) (t : Turned) (r : RunsOn K.gives K.counts told behavior input n x z t) (e : CallContext) (begin : Counts) →
+        IsTrusted e → TellsAs e.clock told → e.behavior ≡ behavior → e.input ≡ input → LendsWanted x.traversal.workspace x.lent → FaultInvariant e x.traversal (lent_words x.lent) begin (K.counts x.core) →
         (K.counts z.core).struck ≤ begin.struck + 1 → Isolates e r.last.traversal z.traversal r.last.lent z.lent begin (K.counts z.core) t.want t.state }
-    ensures wanted { (told : Option ℕ) (behavior : Behavior) (input : List ℕ) (n : ℕ) (x z : On K) (t : Turned) (r : RunsOn K.gives K.counts told behavior input n x z t) (e : Errand) (begin : Counts) →
-        IsTrusted e → TellsAs e.clock told → e.behavior ≡ behavior → e.input ≡ input → LendsWanted x.traversal.walk x.lent → Facts e x.traversal (lent_words x.lent) begin (K.counts x.core) →
+    ensures wanted { (told : Option ℕ) (behavior : Behavior) (input : List ℕ) (n : ℕ) (x z : On K) (t : Turned) (r : RunsOn K.gives K.counts told behavior input n x z t) (e : CallContext) (begin : Counts) →
+        IsTrusted e → TellsAs e.clock told → e.behavior ≡ behavior → e.input ≡ input → LendsWanted x.traversal.workspace x.lent → FaultInvariant e x.traversal (lent_words x.lent) begin (K.counts x.core) →
         (K.counts z.core).struck ≤ begin.struck + 1 → (wants : List Want) → Steps e begin wants x.traversal State.Went →
         Steps e begin ((wants ++ replicate n Want.Nothing) ++ t.want ∷ []) z.traversal t.state }
 {}
@@ -143,23 +143,23 @@ pub fn steps_are_bounded()
 /// wire are its output, and at least twice as many questions were asked as it asks with the test behind
 /// `Halt` that closes its phase.
 pub fn both_passes_are_made()
-    ensures entered { (e : Errand) (t : TraversalState) (lent : Option (List ℕ)) (begin now : Counts) → t.walk.place.phase ≡ Phase.Give →
+    ensures entered { (e : CallContext) (t : TraversalState) (lent : Option (List ℕ)) (begin now : Counts) → t.workspace.place.phase ≡ Phase.Give →
         OnWay e t lent begin now → now.struck ≡ begin.struck → IsServed e t lent begin now }
-    ensures still { (e : Errand) (t : TraversalState) (words : List ℕ) (begin now : Counts) → t.walk.place.phase ≡ Phase.Send →
+    ensures still { (e : CallContext) (t : TraversalState) (words : List ℕ) (begin now : Counts) → t.workspace.place.phase ≡ Phase.Send →
         OnWay e t (Some words) begin now → now.struck ≡ begin.struck → IsServed e t (Some words) begin now }
-    ensures given { (e : Errand) (t : TraversalState) (lent : Option (List ℕ)) (begin now : Counts) → t.walk.place.phase ≡ Phase.Send →
+    ensures given { (e : CallContext) (t : TraversalState) (lent : Option (List ℕ)) (begin now : Counts) → t.workspace.place.phase ≡ Phase.Send →
         OnWay e t lent begin now → now.struck ≡ begin.struck → HasReply e t begin now }
-    ensures sent { (e : Errand) (t : TraversalState) (lent : Option (List ℕ)) (begin now : Counts) → t.walk.place.phase ≡ Phase.Done →
+    ensures sent { (e : CallContext) (t : TraversalState) (lent : Option (List ℕ)) (begin now : Counts) → t.workspace.place.phase ≡ Phase.Done →
         OnWay e t lent begin now → now.struck ≡ begin.struck → HasReply e t begin now }
-    ensures finished { (e : Errand) (t : TraversalState) (begin now : Counts) → AtEnd e t begin now → now.struck ≡ begin.struck → HasReply e t begin now }
+    ensures finished { (e : CallContext) (t : TraversalState) (begin now : Counts) → AtEnd e t begin now → now.struck ≡ begin.struck → HasReply e t begin now }
 {}
 
 /// A sound handler is trusted on words that stand for a state of its model, so a strike is isolated
-/// there; where the input has the call, that is an errand as well. What is to be entered is the answer:
+/// there; where the input has the call, that is a call context as well. What is to be entered is the answer:
 /// the words stand for the state that it leaves at the noted time, and the reply is the answer's.
 pub fn sound_handlers_are_trusted<H: Modeled>()
-    ensures trusted { (h : H) (e : Errand) → IsServedBy (H.space h) (H.begins h) (H.stands h) (H.answer h) e → IsTrusted e }
-    ensures errand { (h : H) (e : Errand) → IsServedBy (H.space h) (H.begins h) (H.stands h) (H.answer h) e → PassesGuard e → IsErrand e }
-    ensures answered { (h : H) (e : Errand) (s : IsServedBy (H.space h) (H.begins h) (H.stands h) (H.answer h) e) (w : Walk) (words : List ℕ) (asked : ℕ) →
+    ensures trusted { (h : H) (e : CallContext) → IsServedBy (H.space h) (H.begins h) (H.stands h) (H.answer h) e → IsTrusted e }
+    ensures call_context { (h : H) (e : CallContext) → IsServedBy (H.space h) (H.begins h) (H.stands h) (H.answer h) e → PassesGuard e → IsCallContext e }
+    ensures answered { (h : H) (e : CallContext) (s : IsServedBy (H.space h) (H.begins h) (H.stands h) (H.answer h) e) (w : Workspace) (words : List ℕ) (asked : ℕ) →
         IsHonestResult e w words asked → IsModelAnswer (H.stands h) (H.answer h) s.held e w words }
 {}

@@ -15,7 +15,7 @@ mod tests;
 mod traversal;
 mod turned;
 mod verifying;
-mod walk;
+mod workspace;
 
 pub use laws::{
     both_passes_are_made, clocks_are_noted, faults_are_isolated, runs_go_as_steps_go,

@@ -5,13 +5,13 @@ ghost use Rattle.sei_code.specs.Coded.{read_of};
 ghost use Rattle.sei_fault.specs.Tree.{Runs};
 ghost use Rattle.sei_stmt.specs.Handling.{parsed_bucket};
 ghost use Rattle.sei_pass.specs.Setting.{sealed_call};
-ghost use Rattle.sei_traverse.specs.Walks.{Stays};
+ghost use Rattle.sei_traverse.specs.Workspaces.{Stays};
 ghost use Rattle.sei_traverse.specs.Acts.{acted, closing_then};
 ghost use Rattle.sei_traverse.specs.Phases.{guard_call, guard_tree, store_wanted, take_tree, take_wanted};
 ghost use Rattle.sei_traverse.specs.Given.{given_of, has_call, bucket_or_zero};
 
 use crate::turned::Want;
-use crate::walk::{Ending, Walk};
+use crate::workspace::{Ending, Workspace};
 use mc_model::Geometry;
 use sei_code::{Coded, message_code};
 use sei_fault::{AbortCause, Core, Phase, Place};
@@ -44,7 +44,7 @@ fn bucket_of_call<H: Handler>(hands: &H, input: &[u8], nth: Coded) -> u64
     }
 }
 
-impl Walk {
+impl Workspace {
     /// Guard.
     pub fn guard<H: Handler, K: Core>(&mut self, hands: &H, input: &[u8], core: &mut K) -> Ending
         ensures act { (space : PassSpace) (lent : Option ℕ) (words : List ℕ) →

@@ -1,22 +1,22 @@
 //! The acts of the two passes.
 ghost use Rattle.std.specs.Prelude.{◌≡◌, ◌≤◌, length};
 ghost use Rattle.sei_stmt.specs.Handling.{parsed_words};
-ghost use Rattle.sei_words.specs.Loan.{words_of, bucket_of, place_of, IsOf};
+ghost use Rattle.sei_words.specs.LentBucket.{words_of, bucket_of, place_of, IsOf};
 ghost use Rattle.sei_pass.specs.Setting.{sealed_call};
-ghost use Rattle.sei_traverse.specs.Walks.{Stays};
+ghost use Rattle.sei_traverse.specs.Workspaces.{Stays};
 ghost use Rattle.sei_traverse.specs.Acts.{acted};
 ghost use Rattle.sei_traverse.specs.PassActs.{first_tree, second_tree};
 ghost use Rattle.sei_traverse.specs.Given.{given_of};
 ghost use Rattle.sei_traverse.specs.Step.{Timed};
 
 use crate::turned::Want;
-use crate::walk::{Ending, Walk};
+use crate::workspace::{Ending, Workspace};
 use sei_fault::{Core, Phase, Place};
 use sei_outside::Clock;
 use sei_pass::{PassStep, Slots, Which};
 use sei_stmt::Handler;
 
-impl Walk {
+impl Workspace {
     /// A statement of the first pass.
     #[inline(always)]
     pub fn first<H: Handler, L: Slots, K: Core, C: Clock>(
@@ -28,12 +28,12 @@ impl Walk {
         clock: &C,
     ) -> Ending
         requires room { length (parsed_words (sealed_call ((H.behavior hands.now).parsed input.now) self.old.sealed.nth)) ≤ self.old.first.input.room }
-        requires lent { IsOf self.old.first.space.geometry (L.loan lent.old) }
+        requires lent { IsOf self.old.first.space.geometry (L.lent_bucket lent.old) }
         ensures act { Timed K.gives (C.told clock.now)
-            (λ now. first_tree (given_of (H.behavior hands.now) input.now self.old.first.space (bucket_of (L.loan lent.old)))
-            now self.old.place.index self.old (words_of (L.loan lent.old)))
-            core.old core.new (acted self.new (words_of (L.loan lent.new)) result) }
-        ensures lent { place_of (L.loan lent.new) ≡ place_of (L.loan lent.old) }
+            (λ now. first_tree (given_of (H.behavior hands.now) input.now self.old.first.space (bucket_of (L.lent_bucket lent.old)))
+            now self.old.place.index self.old (words_of (L.lent_bucket lent.old)))
+            core.old core.new (acted self.new (words_of (L.lent_bucket lent.new)) result) }
+        ensures lent { place_of (L.lent_bucket lent.new) ≡ place_of (L.lent_bucket lent.old) }
         ensures stays { Stays self.old self.new }
         ensures place { self.new.place ≡ self.old.place }
     {
@@ -77,12 +77,12 @@ impl Walk {
         clock: &C,
     ) -> Ending
         requires room { length (parsed_words (sealed_call ((H.behavior hands.now).parsed input.now) self.old.sealed.nth)) ≤ self.old.second.input.room }
-        requires lent { IsOf self.old.second.space.geometry (L.loan lent.old) }
+        requires lent { IsOf self.old.second.space.geometry (L.lent_bucket lent.old) }
         ensures act { Timed K.gives (C.told clock.now)
-            (λ now. second_tree (given_of (H.behavior hands.now) input.now self.old.second.space (bucket_of (L.loan lent.old)))
-            now self.old.place.index self.old (words_of (L.loan lent.old)))
-            core.old core.new (acted self.new (words_of (L.loan lent.new)) result) }
-        ensures lent { place_of (L.loan lent.new) ≡ place_of (L.loan lent.old) }
+            (λ now. second_tree (given_of (H.behavior hands.now) input.now self.old.second.space (bucket_of (L.lent_bucket lent.old)))
+            now self.old.place.index self.old (words_of (L.lent_bucket lent.old)))
+            core.old core.new (acted self.new (words_of (L.lent_bucket lent.new)) result) }
+        ensures lent { place_of (L.lent_bucket lent.new) ≡ place_of (L.lent_bucket lent.old) }
         ensures stays { Stays self.old self.new }
         ensures place { self.new.place ≡ self.old.place }
     {

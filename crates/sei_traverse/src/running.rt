@@ -2,27 +2,27 @@
 ghost use Rattle.std.specs.Prelude.{◌≡◌, ℕ, ◌+◌, ◌<◌, ◌≤◌, ◌^◌, List, length, true, false};
 ghost use Rattle.sei_fault.specs.Tree.{Runs, bound};
 ghost use Rattle.sei_stmt.specs.Handling.{parsed_words};
-ghost use Rattle.sei_words.specs.Loan.{words_of, bucket_of, place_of, IsOf};
+ghost use Rattle.sei_words.specs.LentBucket.{words_of, bucket_of, place_of, IsOf};
 ghost use Rattle.sei_pass.specs.Loop.{HasIndexAfter};
 ghost use Rattle.sei_pass.specs.Setting.{sealed_call};
 ghost use Rattle.sei_traverse.specs.Acts.{at, closes};
 ghost use Rattle.sei_traverse.specs.Running.{on, rest, BeginsStep, RunsOn, begun_at, left_at};
 ghost use Rattle.sei_traverse.specs.Given.{given_of};
-ghost use Rattle.sei_traverse.specs.Step.{next_phase, goes_on, turn, TimedTwice};
-ghost use Rattle.sei_traverse.specs.Walks.{IsWalk, Stays};
+ghost use Rattle.sei_traverse.specs.Step.{next_phase, goes_on, step_result, TimedTwice};
+ghost use Rattle.sei_traverse.specs.Workspaces.{IsWorkspace, Stays};
 
 use crate::stepping::{arrive, next_phase};
 use crate::turned::{Abort, Many, State, Turned, Want};
-use crate::walk::Walk;
+use crate::workspace::Workspace;
 use sei_fault::{Core, Phase, Place, Times};
 use sei_outside::Clock;
 use sei_pass::{Exit, FirstStep, PassSpace, SecondStep, Slots};
 use sei_stmt::Handler;
 
-impl Walk {
+impl Workspace {
     /// Closes the phase of a pass, and goes on to the next phase.
     fn halt<K: Core>(&mut self, core: &mut K) -> State
-        ensures halted { (words : List ℕ) → Runs K.gives (bound (closes self.old.place.phase self.old words Want.Nothing (at (next_phase self.old.place.phase) 0)) goes_on) core.old core.new (turn self.new words result) }
+        ensures halted { (words : List ℕ) → Runs K.gives (bound (closes self.old.place.phase self.old words Want.Nothing (at (next_phase self.old.place.phase) 0)) goes_on) core.old core.new (step_result self.new words result) }
         ensures stays { Stays self.old self.new }
     {
         let phase = self.place.phase;
@@ -47,15 +47,15 @@ impl Walk {
         core: &mut K,
         clock: &C,
     ) -> State
-        requires walk { IsWalk self.old }
+        requires workspace { IsWorkspace self.old }
         requires space { self.old.first.space ≡ space.now }
         requires room { length (parsed_words (sealed_call ((H.behavior hands.now).parsed input.now) self.old.sealed.nth)) ≤ space.now.input }
         requires index { HasIndexAfter exit self.old.place.index }
-        requires lent { IsOf space.now.geometry (L.loan lent.old) }
+        requires lent { IsOf space.now.geometry (L.lent_bucket lent.old) }
         ensures rest { TimedTwice K.gives (C.told clock.now)
-            (λ now later. rest (given_of (H.behavior hands.now) input.now space.now (bucket_of (L.loan lent.old))) now later self.old (words_of (L.loan lent.old)) exit)
-            core.old core.new (turn self.new (words_of (L.loan lent.new)) result) }
-        ensures lent { place_of (L.loan lent.new) ≡ place_of (L.loan lent.old) }
+            (λ now later. rest (given_of (H.behavior hands.now) input.now space.now (bucket_of (L.lent_bucket lent.old))) now later self.old (words_of (L.lent_bucket lent.old)) exit)
+            core.old core.new (step_result self.new (words_of (L.lent_bucket lent.new)) result) }
+        ensures lent { place_of (L.lent_bucket lent.new) ≡ place_of (L.lent_bucket lent.old) }
         ensures stays { Stays self.old self.new }
     {
         match exit {
@@ -90,13 +90,13 @@ impl Walk {
         core: &mut K,
         exit: &mut Exit,
     ) -> bool
-        requires walk { IsWalk self.old }
+        requires workspace { IsWorkspace self.old }
         requires first { self.old.place.phase ≡ Phase.First }
         ensures begins { BeginsStep K.gives (H.behavior hands.now)
-            self.old (L.loan lent.old) core.old self.new (L.loan lent.new) core.new exit.new result }
+            self.old (L.lent_bucket lent.old) core.old self.new (L.lent_bucket lent.new) core.new exit.new result }
         ensures after { result ≡ false → HasIndexAfter exit.new self.new.place.index }
         ensures want { result ≡ true → self.new.want ≡ Want.Nothing }
-        ensures lent { place_of (L.loan lent.new) ≡ place_of (L.loan lent.old) }
+        ensures lent { place_of (L.lent_bucket lent.new) ≡ place_of (L.lent_bucket lent.old) }
         ensures stays { Stays self.old self.new }
     {
         self.want = Want::Nothing;
@@ -130,13 +130,13 @@ impl Walk {
         core: &mut K,
         exit: &mut Exit,
     ) -> bool
-        requires walk { IsWalk self.old }
+        requires workspace { IsWorkspace self.old }
         requires second { self.old.place.phase ≡ Phase.Second }
         ensures begins { BeginsStep K.gives (H.behavior hands.now)
-            self.old (L.loan lent.old) core.old self.new (L.loan lent.new) core.new exit.new result }
+            self.old (L.lent_bucket lent.old) core.old self.new (L.lent_bucket lent.new) core.new exit.new result }
         ensures after { result ≡ false → HasIndexAfter exit.new self.new.place.index }
         ensures want { result ≡ true → self.new.want ≡ Want.Nothing }
-        ensures lent { place_of (L.loan lent.new) ≡ place_of (L.loan lent.old) }
+        ensures lent { place_of (L.lent_bucket lent.new) ≡ place_of (L.lent_bucket lent.old) }
         ensures stays { Stays self.old self.new }
     {
         self.want = Want::Nothing;
@@ -171,12 +171,12 @@ impl Walk {
         core: &mut K,
         exit: &mut Exit,
     ) -> bool
-        requires walk { IsWalk self.old }
+        requires workspace { IsWorkspace self.old }
         ensures begins { BeginsStep K.gives (H.behavior hands.now)
-            self.old (L.loan lent.old) core.old self.new (L.loan lent.new) core.new exit.new result }
+            self.old (L.lent_bucket lent.old) core.old self.new (L.lent_bucket lent.new) core.new exit.new result }
         ensures after { result ≡ false → HasIndexAfter exit.new self.new.place.index }
         ensures want { result ≡ true → self.new.want ≡ Want.Nothing }
-        ensures lent { place_of (L.loan lent.new) ≡ place_of (L.loan lent.old) }
+        ensures lent { place_of (L.lent_bucket lent.new) ≡ place_of (L.lent_bucket lent.old) }
         ensures stays { Stays self.old self.new }
     {
         match self.place.phase {
@@ -203,14 +203,14 @@ impl Walk {
         core: &mut K,
         clock: &C,
     ) -> Many
-        requires walk { IsWalk self.old }
+        requires workspace { IsWorkspace self.old }
         requires space { self.old.first.space ≡ space.now }
         requires room { length (parsed_words (sealed_call ((H.behavior hands.now).parsed input.now) self.old.sealed.nth)) ≤ space.now.input }
-        requires lent { IsOf space.now.geometry (L.loan lent.old) }
+        requires lent { IsOf space.now.geometry (L.lent_bucket lent.old) }
         requires first { self.old.place.phase ≡ Phase.First }
         ensures run { (steps : ℕ) → steps < 2 ^ 64 →
             RunsOn K.gives K.counts (C.told clock.now) (H.behavior hands.now) input.now result.before
-            (on (begun_at self.old space.now steps) (L.loan lent.old) core.old) (on (left_at self.new space.now steps result) (L.loan lent.new) core.new) result.turned }
+            (on (begun_at self.old space.now steps) (L.lent_bucket lent.old) core.old) (on (left_at self.new space.now steps result) (L.lent_bucket lent.new) core.new) result.turned }
         ensures stays { Stays self.old self.new }
     {
         self.want = Want::Nothing;
@@ -242,14 +242,14 @@ impl Walk {
         core: &mut K,
         clock: &C,
     ) -> Many
-        requires walk { IsWalk self.old }
+        requires workspace { IsWorkspace self.old }
         requires space { self.old.first.space ≡ space.now }
         requires room { length (parsed_words (sealed_call ((H.behavior hands.now).parsed input.now) self.old.sealed.nth)) ≤ space.now.input }
-        requires lent { IsOf space.now.geometry (L.loan lent.old) }
+        requires lent { IsOf space.now.geometry (L.lent_bucket lent.old) }
         requires second { self.old.place.phase ≡ Phase.Second }
         ensures run { (steps : ℕ) → steps < 2 ^ 64 →
             RunsOn K.gives K.counts (C.told clock.now) (H.behavior hands.now) input.now result.before
-            (on (begun_at self.old space.now steps) (L.loan lent.old) core.old) (on (left_at self.new space.now steps result) (L.loan lent.new) core.new) result.turned }
+            (on (begun_at self.old space.now steps) (L.lent_bucket lent.old) core.old) (on (left_at self.new space.now steps result) (L.lent_bucket lent.new) core.new) result.turned }
         ensures stays { Stays self.old self.new }
     {
         self.want = Want::Nothing;
@@ -279,13 +279,13 @@ impl Walk {
         core: &mut K,
         clock: &C,
     ) -> Many
-        requires walk { IsWalk self.old }
+        requires workspace { IsWorkspace self.old }
         requires space { self.old.first.space ≡ space.now }
         requires room { length (parsed_words (sealed_call ((H.behavior hands.now).parsed input.now) self.old.sealed.nth)) ≤ space.now.input }
-        requires lent { IsOf space.now.geometry (L.loan lent.old) }
+        requires lent { IsOf space.now.geometry (L.lent_bucket lent.old) }
         ensures run { (steps : ℕ) → steps < 2 ^ 64 →
             RunsOn K.gives K.counts (C.told clock.now) (H.behavior hands.now) input.now result.before
-            (on (begun_at self.old space.now steps) (L.loan lent.old) core.old) (on (left_at self.new space.now steps result) (L.loan lent.new) core.new) result.turned }
+            (on (begun_at self.old space.now steps) (L.lent_bucket lent.old) core.old) (on (left_at self.new space.now steps result) (L.lent_bucket lent.new) core.new) result.turned }
         ensures stays { Stays self.old self.new }
     {
         let state = self.step_alone(hands, input, space, lent, core, clock);
@@ -310,13 +310,13 @@ impl Walk {
         core: &mut K,
         clock: &C,
     ) -> Many
-        requires walk { IsWalk self.old }
+        requires workspace { IsWorkspace self.old }
         requires space { self.old.first.space ≡ space.now }
         requires room { length (parsed_words (sealed_call ((H.behavior hands.now).parsed input.now) self.old.sealed.nth)) ≤ space.now.input }
-        requires lent { IsOf space.now.geometry (L.loan lent.old) }
+        requires lent { IsOf space.now.geometry (L.lent_bucket lent.old) }
         ensures run { (steps : ℕ) → steps < 2 ^ 64 →
             RunsOn K.gives K.counts (C.told clock.now) (H.behavior hands.now) input.now result.before
-            (on (begun_at self.old space.now steps) (L.loan lent.old) core.old) (on (left_at self.new space.now steps result) (L.loan lent.new) core.new) result.turned }
+            (on (begun_at self.old space.now steps) (L.lent_bucket lent.old) core.old) (on (left_at self.new space.now steps result) (L.lent_bucket lent.new) core.new) result.turned }
         ensures stays { Stays self.old self.new }
     {
         match self.place.phase {

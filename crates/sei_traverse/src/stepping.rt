@@ -2,14 +2,14 @@
 ghost use Rattle.std.specs.Prelude.{◌≡◌, ℕ, ◌+◌, ◌<◌, ◌≤◌, ◌^◌, IfSome, List, Some, length};
 ghost use Rattle.sei_fault.specs.Tree.{Runs, bound};
 ghost use Rattle.sei_stmt.specs.Handling.{parsed_words};
-ghost use Rattle.sei_words.specs.Loan.{words_of, bucket_of, place_of, IsOf};
+ghost use Rattle.sei_words.specs.LentBucket.{words_of, bucket_of, place_of, IsOf};
 ghost use Rattle.sei_pass.specs.Setting.{sealed_call};
 ghost use Rattle.sei_traverse.specs.Given.{given_of};
-ghost use Rattle.sei_traverse.specs.Step.{site_of, next_phase, is_halt, is_last, skipped, turn, arrival, is_end, plain_below, goes, goes_from, once, act_tree, twice, turn_at, turn_tree, Timed, TimedTwice};
-ghost use Rattle.sei_traverse.specs.Walks.{IsWalk, Stays};
+ghost use Rattle.sei_traverse.specs.Step.{site_of, next_phase, is_halt, is_last, skipped, step_result, arrival, is_end, plain_below, goes, goes_from, once, act_tree, twice, step_at, traversal_step, Timed, TimedTwice};
+ghost use Rattle.sei_traverse.specs.Workspaces.{IsWorkspace, Stays};
 
 use crate::turned::{Abort, State, Want};
-use crate::walk::{Ending, Walk};
+use crate::workspace::{Ending, Workspace};
 use sei_fault::{AbortCause, Act, Core, Phase, Place, Site, Times};
 use sei_outside::Clock;
 use sei_pass::{PassSpace, Slots};
@@ -80,11 +80,11 @@ fn plain_below(steps: u64, index: u64) -> Option<Act>
     }
 }
 
-impl Walk {
+impl Workspace {
     /// What the step at this place is told as, or `None` where the place is no step of its phase.
     #[inline(always)]
     fn site<H: Handler>(&self, hands: &H) -> Option<Act>
-        requires { IsWalk self.now }
+        requires { IsWorkspace self.now }
         ensures act { result ≡ site_of (H.behavior hands.now) self.now }
         ensures below { IfSome result (λ _. self.now.place.index + 1 < 2 ^ 64) }
     {
@@ -104,7 +104,7 @@ impl Walk {
 
     /// Whether no further step of the phase comes behind this one, which is told as `act`.
     fn is_last(&self, act: Act) -> bool
-        requires { IsWalk self.now }
+        requires { IsWorkspace self.now }
         ensures { result ≡ is_last self.now self.now.place.phase self.now.place.index act }
     {
         let index = self.place.index;
@@ -121,7 +121,7 @@ impl Walk {
 
     /// Where a step goes on whose act was left out.
     pub fn skipped(&self, act: Act) -> Place
-        requires walk { IsWalk self.now }
+        requires workspace { IsWorkspace self.now }
         requires index { self.now.place.index + 1 < 2 ^ 64 }
         ensures { result ≡ skipped self.now act }
     {
@@ -142,7 +142,7 @@ impl Walk {
     /// Asks where to go on, and goes there.
     #[inline(always)]
     pub fn go<K: Core>(&mut self, to: Place, core: &mut K) -> State
-        ensures gone { (words : List ℕ) → Runs K.gives (goes self.old words to) core.old core.new (turn self.new words result) }
+        ensures gone { (words : List ℕ) → Runs K.gives (goes self.old words to) core.old core.new (step_result self.new words result) }
         ensures stays { Stays self.old self.new }
     {
         let phase = self.place.phase;
@@ -153,7 +153,7 @@ impl Walk {
     /// Goes on behind an act, unless that ended the traversal.
     #[inline(always)]
     pub fn go_on<K: Core>(&mut self, ending: Ending, core: &mut K) -> State
-        ensures gone { (words : List ℕ) → Runs K.gives (goes_from self.old words ending) core.old core.new (turn self.new words result) }
+        ensures gone { (words : List ℕ) → Runs K.gives (goes_from self.old words ending) core.old core.new (step_result self.new words result) }
         ensures stays { Stays self.old self.new }
     {
         match ending {
@@ -177,15 +177,15 @@ impl Walk {
         core: &mut K,
         clock: &C,
     ) -> State
-        requires walk { IsWalk self.old }
+        requires workspace { IsWorkspace self.old }
         requires space { self.old.first.space ≡ space.now }
         requires room { length (parsed_words (sealed_call ((H.behavior hands.now).parsed input.now) self.old.sealed.nth)) ≤ space.now.input }
         requires index { self.old.place.index + 1 < 2 ^ 64 }
-        requires lent { IsOf space.now.geometry (L.loan lent.old) }
+        requires lent { IsOf space.now.geometry (L.lent_bucket lent.old) }
         ensures once { Timed K.gives (C.told clock.now)
-            (λ now. once (given_of (H.behavior hands.now) input.now space.now (bucket_of (L.loan lent.old))) now self.old (words_of (L.loan lent.old)))
-            core.old core.new (turn self.new (words_of (L.loan lent.new)) result) }
-        ensures lent { place_of (L.loan lent.new) ≡ place_of (L.loan lent.old) }
+            (λ now. once (given_of (H.behavior hands.now) input.now space.now (bucket_of (L.lent_bucket lent.old))) now self.old (words_of (L.lent_bucket lent.old)))
+            core.old core.new (step_result self.new (words_of (L.lent_bucket lent.new)) result) }
+        ensures lent { place_of (L.lent_bucket lent.new) ≡ place_of (L.lent_bucket lent.old) }
         ensures stays { Stays self.old self.new }
     {
         let ending = self.act(hands, input, space, lent, core, clock);
@@ -203,15 +203,15 @@ impl Walk {
         core: &mut K,
         clock: &C,
     ) -> State
-        requires walk { IsWalk self.old }
+        requires workspace { IsWorkspace self.old }
         requires space { self.old.first.space ≡ space.now }
         requires room { length (parsed_words (sealed_call ((H.behavior hands.now).parsed input.now) self.old.sealed.nth)) ≤ space.now.input }
         requires index { self.old.place.index + 1 < 2 ^ 64 }
-        requires lent { IsOf space.now.geometry (L.loan lent.old) }
+        requires lent { IsOf space.now.geometry (L.lent_bucket lent.old) }
         ensures twice { TimedTwice K.gives (C.told clock.now)
-            (λ now later. bound (act_tree (given_of (H.behavior hands.now) input.now space.now (bucket_of (L.loan lent.old))) now self.old (words_of (L.loan lent.old))) (twice (given_of (H.behavior hands.now) input.now space.now (bucket_of (L.loan lent.old))) later))
-            core.old core.new (turn self.new (words_of (L.loan lent.new)) result) }
-        ensures lent { place_of (L.loan lent.new) ≡ place_of (L.loan lent.old) }
+            (λ now later. bound (act_tree (given_of (H.behavior hands.now) input.now space.now (bucket_of (L.lent_bucket lent.old))) now self.old (words_of (L.lent_bucket lent.old))) (twice (given_of (H.behavior hands.now) input.now space.now (bucket_of (L.lent_bucket lent.old))) later))
+            core.old core.new (step_result self.new (words_of (L.lent_bucket lent.new)) result) }
+        ensures lent { place_of (L.lent_bucket lent.new) ≡ place_of (L.lent_bucket lent.old) }
         ensures stays { Stays self.old self.new }
     {
         match self.act(hands, input, space, lent, core, clock) {
@@ -226,7 +226,7 @@ impl Walk {
 
     /// Asks how often the act of the step is to be done, does it, and goes on.
     #[inline(always)]
-    fn turn<H: Handler, L: Slots, K: Core, C: Clock>(
+    fn make_act<H: Handler, L: Slots, K: Core, C: Clock>(
         &mut self,
         act: Act,
         hands: &H,
@@ -236,15 +236,15 @@ impl Walk {
         core: &mut K,
         clock: &C,
     ) -> State
-        requires walk { IsWalk self.old }
+        requires workspace { IsWorkspace self.old }
         requires space { self.old.first.space ≡ space.now }
         requires room { length (parsed_words (sealed_call ((H.behavior hands.now).parsed input.now) self.old.sealed.nth)) ≤ space.now.input }
         requires index { self.old.place.index + 1 < 2 ^ 64 }
-        requires lent { IsOf space.now.geometry (L.loan lent.old) }
+        requires lent { IsOf space.now.geometry (L.lent_bucket lent.old) }
         ensures turned { TimedTwice K.gives (C.told clock.now)
-            (λ now later. turn_at (given_of (H.behavior hands.now) input.now space.now (bucket_of (L.loan lent.old))) now later self.old (words_of (L.loan lent.old)) (Some act))
-            core.old core.new (turn self.new (words_of (L.loan lent.new)) result) }
-        ensures lent { place_of (L.loan lent.new) ≡ place_of (L.loan lent.old) }
+            (λ now later. step_at (given_of (H.behavior hands.now) input.now space.now (bucket_of (L.lent_bucket lent.old))) now later self.old (words_of (L.lent_bucket lent.old)) (Some act))
+            core.old core.new (step_result self.new (words_of (L.lent_bucket lent.new)) result) }
+        ensures lent { place_of (L.lent_bucket lent.new) ≡ place_of (L.lent_bucket lent.old) }
         ensures stays { Stays self.old self.new }
     {
         let site = Site {
@@ -272,14 +272,14 @@ impl Walk {
         core: &mut K,
         clock: &C,
     ) -> State
-        requires walk { IsWalk self.old }
+        requires workspace { IsWorkspace self.old }
         requires space { self.old.first.space ≡ space.now }
         requires room { length (parsed_words (sealed_call ((H.behavior hands.now).parsed input.now) self.old.sealed.nth)) ≤ space.now.input }
-        requires lent { IsOf space.now.geometry (L.loan lent.old) }
+        requires lent { IsOf space.now.geometry (L.lent_bucket lent.old) }
         ensures turned { TimedTwice K.gives (C.told clock.now)
-            (λ now later. turn_tree (given_of (H.behavior hands.now) input.now space.now (bucket_of (L.loan lent.old))) now later self.old (words_of (L.loan lent.old)))
-            core.old core.new (turn self.new (words_of (L.loan lent.new)) result) }
-        ensures lent { place_of (L.loan lent.new) ≡ place_of (L.loan lent.old) }
+            (λ now later. traversal_step (given_of (H.behavior hands.now) input.now space.now (bucket_of (L.lent_bucket lent.old))) now later self.old (words_of (L.lent_bucket lent.old)))
+            core.old core.new (step_result self.new (words_of (L.lent_bucket lent.new)) result) }
+        ensures lent { place_of (L.lent_bucket lent.new) ≡ place_of (L.lent_bucket lent.old) }
         ensures stays { Stays self.old self.new }
     {
         self.want = Want::Nothing;
@@ -290,7 +290,7 @@ impl Walk {
                     index: self.place.index,
                 },
             }),
-            Some(act) => self.turn(act, hands, input, space, lent, core, clock),
+            Some(act) => self.make_act(act, hands, input, space, lent, core, clock),
         }
     }
 }

@@ -122,7 +122,7 @@ enum By {
 }
 
 /// One step or run for the input `x` at second 1000, with the words lent or not.
-fn turn<K: Core>(
+fn make<K: Core>(
     traversal: &mut Traversal,
     by: By,
     service: &Service,
@@ -218,7 +218,7 @@ fn serve<K: Core>(
     let mut wants = Vec::new(alloc);
     let mut lent = false;
     for turns in 1..100 {
-        let turned = turn(traversal, by, service, words, lent, core);
+        let turned = make(traversal, by, service, words, lent, core);
         match turned.want {
             Want::Take { .. } => lent = lends,
             Want::Give => lent = false,

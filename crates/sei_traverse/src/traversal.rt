@@ -5,12 +5,12 @@ ghost use Rattle.sei_code.specs.declared.modes.Mode.{Mode};
 ghost use Rattle.sei_fault.specs.Counts.{Counts};
 ghost use Rattle.sei_stmt.specs.Handling.{parsed_words};
 ghost use Rattle.sei_words.specs.Exits.{lent_at, lent_left};
-ghost use Rattle.sei_words.specs.Loan.{IsOf};
+ghost use Rattle.sei_words.specs.LentBucket.{IsOf};
 ghost use Rattle.sei_pass.specs.Setting.{sealed_call};
 ghost use Rattle.sei_pass.specs.Spaces.{pass_space};
 ghost use Rattle.sei_traverse.specs.Bounds.{most_steps, StepsWithin, StepsAfter};
-ghost use Rattle.sei_traverse.specs.Errand.{Errand, IsErrand};
-ghost use Rattle.sei_traverse.specs.Facts.{Facts, LendsWanted, Isolates};
+ghost use Rattle.sei_traverse.specs.CallContext.{CallContext, IsCallContext};
+ghost use Rattle.sei_traverse.specs.FaultInvariant.{FaultInvariant, LendsWanted, Isolates};
 ghost use Rattle.sei_traverse.specs.OnWay.{lent_words, Lends, TellsAs, OnWay, StaysOnWay, IsUnfit};
 ghost use Rattle.sei_traverse.specs.Phases.{reply_of};
 ghost use Rattle.sei_traverse.specs.Running.{on, Makes, RunsOn};
@@ -19,7 +19,7 @@ ghost use Rattle.sei_traverse.specs.State.{IsTraversal, begun_traversal, noted_t
 ghost use Rattle.sei_traverse.specs.Trusted.{IsTrusted};
 
 use crate::turned::{Many, State, Turned, Want};
-use crate::walk::{NO_NOTES, Walk};
+use crate::workspace::{NO_NOTES, Workspace};
 use mc_model::Geometry;
 use sei_code::{Buffer, Coded, Memory, Mode};
 use sei_fault::{Core, Phase, Place};
@@ -36,7 +36,7 @@ use std::marker::Model;
 /// one noted, the number of closed phases, and the copy for the wire.
 #[derive(Drop)]
 pub struct Traversal {
-    walk: Walk,
+    workspace: Workspace,
     space: PassSpace,
     steps: u64,
     running: bool,
@@ -47,9 +47,9 @@ impl Model for Traversal {
 
     ghost Value = { TraversalState };
 
-    ghost view = { λ t. record { walk = t.walk; space = t.space; steps = t.steps; running = t.running } };
+    ghost view = { λ t. record { workspace = t.workspace; space = t.space; steps = t.steps; running = t.running } };
 
-    ghost invariant = { λ t. IsTraversal (record { walk = t.walk; space = t.space; steps = t.steps; running = t.running }) };
+    ghost invariant = { λ t. IsTraversal (record { workspace = t.workspace; space = t.space; steps = t.steps; running = t.running }) };
 }
 
 /// How many steps a traversal makes at most, with one strike at most.
@@ -70,7 +70,7 @@ impl Traversal {
         ensures running { IfOk result (λ t. t.running ≡ false) }
     {
         Ok(Traversal {
-            walk: Walk::new(alloc, g)?,
+            workspace: Workspace::new(alloc, g)?,
             space: PassSpace::new(g, g.value_words),
             steps: 0,
             running: false,
@@ -91,36 +91,36 @@ impl Traversal {
     fn begin_plain(&mut self, sealed: Sealed)
         ensures { self.new ≡ begun_traversal self.old.space sealed }
     {
-        self.walk.sealed = sealed;
-        self.walk.place = Place {
+        self.workspace.sealed = sealed;
+        self.workspace.place = Place {
             phase: Phase::Guard,
             index: 0,
         };
-        self.walk.gate = Gate::new();
-        self.walk.wanted = 0;
-        self.walk.want = Want::Nothing;
-        self.walk.first.clear();
-        self.walk.second.clear();
-        self.walk.first_log.clear();
-        self.walk.second_log.clear();
-        self.walk.notes = NO_NOTES;
-        self.walk.wire.clear();
+        self.workspace.gate = Gate::new();
+        self.workspace.wanted = 0;
+        self.workspace.want = Want::Nothing;
+        self.workspace.first.clear();
+        self.workspace.second.clear();
+        self.workspace.first_log.clear();
+        self.workspace.second_log.clear();
+        self.workspace.notes = NO_NOTES;
+        self.workspace.wire.clear();
         self.steps = 0;
         self.running = true;
     }
 
     /// The place of the next step.
     pub fn place(&self) -> Place
-        ensures { result ≡ self.now.walk.place }
+        ensures { result ≡ self.now.workspace.place }
     {
-        self.walk.place
+        self.workspace.place
     }
 
     /// How many phases are closed.
     pub fn gate(&self) -> u64
-        ensures { result ≡ self.now.walk.gate.done }
+        ensures { result ≡ self.now.workspace.gate.done }
     {
-        self.walk.gate.done
+        self.workspace.gate.done
     }
 
     /// How many steps were made since it began. The last value stays.
@@ -132,25 +132,25 @@ impl Traversal {
 
     /// The number of the bucket that is wanted; 0 before that was stored.
     pub fn wanted(&self) -> u64
-        ensures { result ≡ self.now.walk.wanted }
+        ensures { result ≡ self.now.workspace.wanted }
     {
-        self.walk.wanted
+        self.workspace.wanted
     }
 
     /// The reply: the output bytes of the second pass.
     pub fn reply(&self) -> &[u8]
-        ensures bytes { result.now ≡ reply_of self.now.walk }
+        ensures bytes { result.now ≡ reply_of self.now.workspace }
         ensures fits { length result.now ≤ self.now.space.bytes }
     {
-        self.walk.second.bytes()
+        self.workspace.second.bytes()
     }
 
     /// The copy of the reply for the wire.
     pub fn wire(&self) -> &[u8]
-        ensures bytes { result.now ≡ self.now.walk.wire.items }
+        ensures bytes { result.now ≡ self.now.workspace.wire.items }
         ensures fits { length result.now ≤ self.now.space.bytes }
     {
-        self.walk.wire.bytes()
+        self.workspace.wire.bytes()
     }
 
     /// How many bytes a reply has at most.
@@ -165,7 +165,7 @@ impl Traversal {
         ensures noted { result ≡ noted_time self.now }
         ensures small { IfSome (noted_time self.now) (λ time. time < 2 ^ 64) }
     {
-        match self.walk.notes.now {
+        match self.workspace.notes.now {
             None => None,
             Some(note) => note.read(),
         }
@@ -184,7 +184,7 @@ impl Traversal {
     ) -> Turned
         requires running { self.old.running ≡ true }
         // The input words of the passes have room for what the hands make of the input.
-        requires room { length (parsed_words (sealed_call ((H.behavior hands.now).parsed input.now) self.old.walk.sealed.nth)) ≤ self.old.space.input }
+        requires room { length (parsed_words (sealed_call ((H.behavior hands.now).parsed input.now) self.old.workspace.sealed.nth)) ≤ self.old.space.input }
         // What is lent is of the traversal's geometry.
         requires lent { IsOf self.old.space.geometry (lent_at lent) }
         // The step is that of the definition, whatever the core answers.
@@ -197,20 +197,20 @@ impl Traversal {
             (s : ℕ) × ((K.counts core.new).room ≡ Some s) × ((K.counts core.new).struck + s ≡ (K.counts core.old).struck + r) }
         // A traversal that is on its way stays on it: it is refused or aborts only where a strike fell since it began,
         // and otherwise stands where its definition leads, or has come to its end.
-        ensures on_way { (e : Errand) (begin : Counts) → IsErrand e → TellsAs e.clock (C.told clock.now) →
+        ensures on_way { (e : CallContext) (begin : Counts) → IsCallContext e → TellsAs e.clock (C.told clock.now) →
             e.behavior ≡ H.behavior hands.now → e.input ≡ input.now →
-            Lends e self.old.walk.place.phase (lent_at lent.entry) → OnWay e self.old (lent_words (lent_at lent.entry)) begin (K.counts core.old) →
+            Lends e self.old.workspace.place.phase (lent_at lent.entry) → OnWay e self.old (lent_words (lent_at lent.entry)) begin (K.counts core.old) →
             StaysOnWay e self.old self.new (lent_words (lent_left lent.exit)) begin (K.counts core.new) result.want result.state }
         // One strike is isolated: what is known of a traversal is known behind each step; what it wants is so, and is wanted
         // but once; it aborts only where a strike fell, and is refused only before Take is closed. Where the caller follows
         // what is wanted, it lends what the next step asks for.
-        ensures isolated { (e : Errand) (begin : Counts) → IsTrusted e → TellsAs e.clock (C.told clock.now) →
+        ensures isolated { (e : CallContext) (begin : Counts) → IsTrusted e → TellsAs e.clock (C.told clock.now) →
             e.behavior ≡ H.behavior hands.now → e.input ≡ input.now →
-            LendsWanted self.old.walk (lent_at lent.entry) → Facts e self.old (lent_words (lent_at lent.entry)) begin (K.counts core.old) →
+            LendsWanted self.old.workspace (lent_at lent.entry) → FaultInvariant e self.old (lent_words (lent_at lent.entry)) begin (K.counts core.old) →
             (K.counts core.new).struck ≤ begin.struck + 1 →
             Isolates e self.old self.new (lent_at lent.entry) (lent_left lent.exit) begin (K.counts core.new) result.want result.state }
         // Without a strike an input that does not pass the tests of Guard is refused.
-        ensures refused { IsUnfit (given_of (H.behavior hands.now) input.now self.old.space None) self.old.walk →
+        ensures refused { IsUnfit (given_of (H.behavior hands.now) input.now self.old.space None) self.old.workspace →
             (K.counts core.new).struck ≡ (K.counts core.old).struck → result.state ≡ State.Refused }
     {
         match lent {
@@ -230,23 +230,23 @@ impl Traversal {
         clock: &C,
     ) -> Turned
         requires running { self.old.running ≡ true }
-        requires room { length (parsed_words (sealed_call ((H.behavior hands.now).parsed input.now) self.old.walk.sealed.nth)) ≤ self.old.space.input }
-        requires lent { IsOf self.old.space.geometry (L.loan lent.old) }
+        requires room { length (parsed_words (sealed_call ((H.behavior hands.now).parsed input.now) self.old.workspace.sealed.nth)) ≤ self.old.space.input }
+        requires lent { IsOf self.old.space.geometry (L.lent_bucket lent.old) }
         ensures makes { Makes K.gives K.counts (C.told clock.now) (H.behavior hands.now) input.now
-            (on self.old (L.loan lent.old) core.old) (on self.new (L.loan lent.new) core.new) result }
+            (on self.old (L.lent_bucket lent.old) core.old) (on self.new (L.lent_bucket lent.new) core.new) result }
         ensures within { (begin : Counts) → StepsWithin self.old begin (K.counts core.old) → StepsAfter self.new begin (K.counts core.new) result.state }
         ensures room { (r : ℕ) → (K.counts core.old).room ≡ Some r →
             (s : ℕ) × ((K.counts core.new).room ≡ Some s) × ((K.counts core.new).struck + s ≡ (K.counts core.old).struck + r) }
-        ensures on_way { (e : Errand) (begin : Counts) → IsErrand e → TellsAs e.clock (C.told clock.now) →
+        ensures on_way { (e : CallContext) (begin : Counts) → IsCallContext e → TellsAs e.clock (C.told clock.now) →
             e.behavior ≡ H.behavior hands.now → e.input ≡ input.now →
-            Lends e self.old.walk.place.phase (L.loan lent.old) → OnWay e self.old (lent_words (L.loan lent.old)) begin (K.counts core.old) →
-            StaysOnWay e self.old self.new (lent_words (L.loan lent.new)) begin (K.counts core.new) result.want result.state }
-        ensures isolated { (e : Errand) (begin : Counts) → IsTrusted e → TellsAs e.clock (C.told clock.now) →
+            Lends e self.old.workspace.place.phase (L.lent_bucket lent.old) → OnWay e self.old (lent_words (L.lent_bucket lent.old)) begin (K.counts core.old) →
+            StaysOnWay e self.old self.new (lent_words (L.lent_bucket lent.new)) begin (K.counts core.new) result.want result.state }
+        ensures isolated { (e : CallContext) (begin : Counts) → IsTrusted e → TellsAs e.clock (C.told clock.now) →
             e.behavior ≡ H.behavior hands.now → e.input ≡ input.now →
-            LendsWanted self.old.walk (L.loan lent.old) → Facts e self.old (lent_words (L.loan lent.old)) begin (K.counts core.old) →
+            LendsWanted self.old.workspace (L.lent_bucket lent.old) → FaultInvariant e self.old (lent_words (L.lent_bucket lent.old)) begin (K.counts core.old) →
             (K.counts core.new).struck ≤ begin.struck + 1 →
-            Isolates e self.old self.new (L.loan lent.old) (L.loan lent.new) begin (K.counts core.new) result.want result.state }
-        ensures refused { IsUnfit (given_of (H.behavior hands.now) input.now self.old.space None) self.old.walk →
+            Isolates e self.old self.new (L.lent_bucket lent.old) (L.lent_bucket lent.new) begin (K.counts core.new) result.want result.state }
+        ensures refused { IsUnfit (given_of (H.behavior hands.now) input.now self.old.space None) self.old.workspace →
             (K.counts core.new).struck ≡ (K.counts core.old).struck → result.state ≡ State.Refused }
     {
         self.make(hands, input, lent, core, clock)
@@ -263,26 +263,26 @@ impl Traversal {
         clock: &C,
     ) -> Turned
         requires running { self.old.running ≡ true }
-        requires room { length (parsed_words (sealed_call ((H.behavior hands.now).parsed input.now) self.old.walk.sealed.nth)) ≤ self.old.space.input }
-        requires lent { IsOf self.old.space.geometry (L.loan lent.old) }
+        requires room { length (parsed_words (sealed_call ((H.behavior hands.now).parsed input.now) self.old.workspace.sealed.nth)) ≤ self.old.space.input }
+        requires lent { IsOf self.old.space.geometry (L.lent_bucket lent.old) }
         ensures makes { Makes K.gives K.counts (C.told clock.now) (H.behavior hands.now) input.now
-            (on self.old (L.loan lent.old) core.old) (on self.new (L.loan lent.new) core.new) result }
+            (on self.old (L.lent_bucket lent.old) core.old) (on self.new (L.lent_bucket lent.new) core.new) result }
         ensures traversal { IsTraversal self.old }
     {
         self.steps = self.steps.saturating_add(1);
         let mut exit = Exit::Alone;
-        if self.walk.lead(hands, lent, core, &mut exit) {
+        if self.workspace.lead(hands, lent, core, &mut exit) {
             Turned {
                 want: Want::Nothing,
                 state: State::Went,
             }
         } else {
             let state = self
-                .walk
+                .workspace
                 .rest(exit, hands, input, &self.space, lent, core, clock);
             self.running = state == State::Went;
             Turned {
-                want: self.walk.want,
+                want: self.workspace.want,
                 state,
             }
         }
@@ -300,7 +300,7 @@ impl Traversal {
         clock: &C,
     ) -> Many
         requires running { self.old.running ≡ true }
-        requires room { length (parsed_words (sealed_call ((H.behavior hands.now).parsed input.now) self.old.walk.sealed.nth)) ≤ self.old.space.input }
+        requires room { length (parsed_words (sealed_call ((H.behavior hands.now).parsed input.now) self.old.workspace.sealed.nth)) ≤ self.old.space.input }
         requires lent { IsOf self.old.space.geometry (lent_at lent) }
         // So many steps that want nothing, and one more: each is that of the definition, whatever the core answers.
         ensures run { RunsOn K.gives K.counts (C.told clock.now) (H.behavior hands.now) input.now result.before
@@ -322,12 +322,14 @@ impl Traversal {
         clock: &C,
     ) -> Many
         requires running { self.old.running ≡ true }
-        requires room { length (parsed_words (sealed_call ((H.behavior hands.now).parsed input.now) self.old.walk.sealed.nth)) ≤ self.old.space.input }
-        requires lent { IsOf self.old.space.geometry (L.loan lent.old) }
+        requires room { length (parsed_words (sealed_call ((H.behavior hands.now).parsed input.now) self.old.workspace.sealed.nth)) ≤ self.old.space.input }
+        requires lent { IsOf self.old.space.geometry (L.lent_bucket lent.old) }
         ensures run { RunsOn K.gives K.counts (C.told clock.now) (H.behavior hands.now) input.now result.before
-            (on self.old (L.loan lent.old) core.old) (on self.new (L.loan lent.new) core.new) result.turned }
+            (on self.old (L.lent_bucket lent.old) core.old) (on self.new (L.lent_bucket lent.new) core.new) result.turned }
     {
-        let many = self.walk.run(hands, input, &self.space, lent, core, clock);
+        let many = self
+            .workspace
+            .run(hands, input, &self.space, lent, core, clock);
         self.steps = self.steps.saturating_add(many.before).saturating_add(1);
         self.running = many.turned.state == State::Went;
         many

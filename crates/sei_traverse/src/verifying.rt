@@ -3,25 +3,25 @@ ghost use Rattle.std.specs.Prelude.{◌≡◌, ℕ, ◌+◌, ◌^◌, ◌<◌, �
 ghost use Rattle.sei_code.specs.declared.modes.Mode.{Mode};
 ghost use Rattle.sei_compare.specs.Comparing.{word_at, wire_tree};
 ghost use Rattle.sei_fault.specs.Tree.{Runs, bound};
-ghost use Rattle.sei_words.specs.Loan.{words_of};
-ghost use Rattle.sei_traverse.specs.Walks.{Stays};
+ghost use Rattle.sei_words.specs.LentBucket.{words_of};
+ghost use Rattle.sei_traverse.specs.Workspaces.{Stays};
 ghost use Rattle.sei_traverse.specs.Acts.{acted};
 ghost use Rattle.sei_traverse.specs.Phases.{verify_tree, verify_copy, word_to, copy_bytes, wire_to};
 
 use crate::turned::Want;
-use crate::walk::{Ending, Walk};
+use crate::workspace::{Ending, Workspace};
 use sei_code::Mode;
 use sei_compare::{wire, word_on};
 use sei_fault::{AbortCause, Core, Phase, Place};
 use sei_words::Lent;
 
-impl Walk {
+impl Workspace {
     /// Verify.
     pub fn verify<L: Lent, K: Core>(&mut self, lent: &L, core: &mut K) -> Ending
         requires fits { length self.old.second.bytes.items ≤ self.old.wire.room }
         requires index { self.old.place.index + 1 < 2 ^ 64 }
-        ensures act { Runs K.gives (verify_tree self.old.place.index self.old (words_of (L.loan lent.now)))
-            core.old core.new (acted self.new (words_of (L.loan lent.now)) result) }
+        ensures act { Runs K.gives (verify_tree self.old.place.index self.old (words_of (L.lent_bucket lent.now)))
+            core.old core.new (acted self.new (words_of (L.lent_bucket lent.now)) result) }
         ensures stays { Stays self.old self.new }
         ensures place { self.new.place ≡ self.old.place }
     {
@@ -36,8 +36,8 @@ impl Walk {
     fn verify_word<L: Lent, K: Core>(&mut self, lent: &L, core: &mut K) -> Ending
         requires there { self.old.place.index < length self.old.second_log.items }
         requires index { self.old.place.index + 1 < 2 ^ 64 }
-        ensures act { Runs K.gives (bound (word_at (words_of (L.loan lent.now)) (slice_get self.old.second_log.items self.old.place.index)) (word_to self.old (words_of (L.loan lent.now)) self.old.place.index))
-            core.old core.new (acted self.new (words_of (L.loan lent.now)) result) }
+        ensures act { Runs K.gives (bound (word_at (words_of (L.lent_bucket lent.now)) (slice_get self.old.second_log.items self.old.place.index)) (word_to self.old (words_of (L.lent_bucket lent.now)) self.old.place.index))
+            core.old core.new (acted self.new (words_of (L.lent_bucket lent.now)) result) }
         ensures stays { Stays self.old self.new }
         ensures place { self.new.place ≡ self.old.place }
     {

@@ -6,5 +6,5 @@ pub mod Value
 pub mod Holds
 pub mod Stands
 pub mod Changes
-pub mod Loan
+pub mod LentBucket
 pub mod Exits

@@ -27,9 +27,9 @@ abbrev pub sealed_of : List ℕ → Sealed
 sealed_of text = record { number = 0; nth = sealed 0; code = message_code 0 text; answer = 1 }
 
 -- the words of the bucket, if they are lent
-abbrev pub loan_if : Bool → BucketWords → Option BucketWords
-loan_if true words = Some words
-loan_if false words = None
+abbrev pub lent_if : Bool → BucketWords → Option BucketWords
+lent_if true words = Some words
+lent_if false words = None
 
 -- whether the bucket is lent after a step that wants this: it is from the want of Take to the want of Give
 abbrev pub lent_after : Want → Bool → Bool

@@ -3,7 +3,7 @@ ghost use Rattle.std.specs.Prelude.{◌≡◌, true, Some, None, IfOk, IfSome};
 ghost use Rattle.mc_model.specs.Server.{IsValid};
 ghost use Rattle.sei_pass.specs.Spaces.{pass_space};
 ghost use Rattle.sei_traverse.specs.Running.{on};
-ghost use Rattle.yardstick.specs.Calls.{sealed_of, lent_after, loan_if, Ran, Finishes, MadeFor, MadeUnder};
+ghost use Rattle.yardstick.specs.Calls.{sealed_of, lent_after, lent_if, Ran, Finishes, MadeFor, MadeUnder};
 ghost use Rattle.yardstick.specs.Requests.{request_text};
 
 use crate::order::{Command, CoreKind, Order, Way};
@@ -124,7 +124,7 @@ fn run_alone<K: Core>(
 
 /// Makes a step, or as many as a run makes, with the words of the bucket lent or not.
 #[inline(always)]
-fn turn<K: Core>(
+fn make<K: Core>(
     traversal: &mut Traversal,
     hands: &Hands,
     words: &mut Words,
@@ -139,7 +139,7 @@ fn turn<K: Core>(
     requires space { traversal.old.space ≡ pass_space hands.now }
     requires words { words.old.geometry ≡ hands.now }
     ensures ran { Ran K.gives K.counts (Some clock.now.at) hands.now text.now
-        (on traversal.old (loan_if lent words.old) core.old) (on traversal.new (loan_if lent words.new) core.new) result }
+        (on traversal.old (lent_if lent words.old) core.old) (on traversal.new (lent_if lent words.new) core.new) result }
     ensures words { words.new.geometry ≡ words.old.geometry }
 {
     match (way, lent) {
@@ -183,7 +183,7 @@ fn call<K: Core>(
     let mut lent = false;
     traversal.begin(sealed(text), Mode::Plain);
     for _ in 0..limit {
-        let turned = turn(traversal, hands, words, text, way, lent, core, &clock);
+        let turned = make(traversal, hands, words, text, way, lent, core, &clock);
         lent = is_lent_after(turned.want, lent);
         match turned.state {
             State::Went => {}

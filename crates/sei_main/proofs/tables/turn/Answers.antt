@@ -3,7 +3,7 @@ use Rattle.std.specs.Prelude.{slice_get}
 use Rattle.std.proofs.lemmas.Option.{slice_get-get_or}
 use Rattle.sei_words.specs.Words.{BucketWords}
 use Rattle.sei_pass.specs.declared.spaces.PassSpace.{PassSpace}
-use Rattle.sei_main.specs.Course.{loan_in}
+use Rattle.sei_main.specs.Course.{lent_in}
 use Rattle.sei_main.proofs.Turns.{turned_with, turned_without, turned_past, still_laid_out}
 use Rattle.sei_main.proofs.tables.turn.Goals as goal
 
@@ -38,4 +38,4 @@ returns-in-Some-2-clause-turned c =
 pub returns-in-None-clause-turned : goal.returns-in-None-clause-turned
 returns-in-None-clause-turned c =
     turned_without c.args.hands.now c.args.text.now c.args.clock.now.at c.args.buckets.now.items c.args.lent c.args.traversal.now c.turn_alone-in-None.new.traversal c.args.core.now c.turn_alone-in-None.new.core c.turn_alone-in-None.result c.requires.space
-    (ap (loan_in c.args.buckets.now.items) c.in-None.is) c.turn_alone-in-None.ensures
+    (ap (lent_in c.args.buckets.now.items) c.in-None.is) c.turn_alone-in-None.ensures

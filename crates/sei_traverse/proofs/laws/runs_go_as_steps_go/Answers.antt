@@ -5,8 +5,8 @@ pub returns-clause-within : goal.returns-clause-within
 returns-clause-within g c = λ told behavior input n x z t r begin is within. run_within g.K.Core.gives g.K.Core.counts told behavior input g.met.K.Core.lawful begin n x z t r is within
 
 pub returns-clause-on_way : goal.returns-clause-on_way
-returns-clause-on_way g c = λ told behavior input n x z t r e begin errand tells f h lends way.
-    run_on_way g.K.Core.gives g.K.Core.counts told behavior input g.met.K.Core.lawful e begin f h tells n x z t errand r lends way
+returns-clause-on_way g c = λ told behavior input n x z t r e begin call_context tells f h lends way.
+    run_on_way g.K.Core.gives g.K.Core.counts told behavior input g.met.K.Core.lawful e begin f h tells n x z t call_context r lends way
 
 pub returns-clause-isolated : goal.returns-clause-isolated
 returns-clause-isolated g c = λ told behavior input n x z t r e begin trusted tells f h lends facts few.

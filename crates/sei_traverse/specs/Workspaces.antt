@@ -1,0 +1,22 @@
+-- What every traversal keeps, whatever the answers of the core are.
+use Rattle.std.specs.Prelude.{◌≡◌, ◌≤◌, length}
+use Rattle.sei_pass.specs.State.{IsPass}
+use Rattle.sei_traverse.specs.declared.workspace.Workspace.{Workspace}
+
+-- both passes are of this space, and the logs and the copy for the wire have their rooms and fit into them
+pub record IsWorkspace (w : Workspace) : Type 0 where
+  pub first : IsPass w.first
+  pub second : IsPass w.second
+  pub same : w.second.space ≡ w.first.space
+  pub first_log : length w.first_log.items ≤ w.first.space.log
+  pub second_log : length w.second_log.items ≤ w.first.space.log
+  pub first_room : w.first_log.room ≡ w.first.space.log
+  pub second_room : w.second_log.room ≡ w.first.space.log
+  pub wire_room : w.wire.room ≡ w.first.space.bytes
+  pub wire_fits : length w.wire.items ≤ w.wire.room
+
+-- what each act and step leaves as it is
+pub record Stays (w v : Workspace) : Type 0 where
+  pub sealed : v.sealed ≡ w.sealed
+  pub space : v.first.space ≡ w.first.space
+  pub workspace : IsWorkspace w → IsWorkspace v
