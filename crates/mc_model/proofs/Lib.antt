@@ -1,6 +1,7 @@
 pub mod PlaceLaws
 pub mod MapLaws
 pub mod WithinLaws
+pub mod FoundLaws
 pub mod Worked
 pub mod PackLaws
 pub mod PublicBuckets

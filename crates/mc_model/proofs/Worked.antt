@@ -3,7 +3,7 @@ use Rattle.std.proofs.Common.{◌≡◌, ℕ, true, false, List, [], ◌∷◌, 
 use Rattle.std.specs.Prelude.{codes}
 use Rattle.std.specs.Fmt.{digits}
 use Rattle.mc_model.specs.declared.call.Verb.{Verb}
-use Rattle.mc_model.specs.declared.call.Verb.TheVariants.{Set, Add, Append, Prepend, Cas, Get, Gets, Touch, Delete, Incr, Decr, Flush, Fixed}
+use Rattle.mc_model.specs.declared.call.Verb.TheVariants.{Set, Add, Replace, Append, Prepend, Cas, Get, Gets, Gat, Gats, Touch, Delete, Incr, Decr, Flush, Fixed}
 use Rattle.mc_model.specs.declared.call.Room.{Room}
 use Rattle.mc_model.specs.Texts.{text_line, line}
 use Rattle.mc_model.specs.Bucket.{Bucket, empty_bucket}
@@ -87,6 +87,34 @@ joined_values_have_a_limit : replies (room 1) empty_bucket (
 unfolding answer text_line digits
 joined_values_have_a_limit = refl
 
+-- gat and gats show the item and set its expiry, and keep its cas unique
+gat_shows_and_touches : replies (room 1) empty_bucket (
+    (100, set (codes "a") (codes "x")) ∷ (100, timed 10 (at_key Gat (codes "a"))) ∷ (109, timed 20 (at_key Gats (codes "a")))
+    ∷ (128, at_key Gets (codes "a")) ∷ (129, at_key Gat (codes "a")) ∷ (129, at_key Gats (codes "a")) ∷ [])
+    ≡ line (codes "STORED") ∷ (a_x ++ line (codes "END")) ∷ (line (codes "VALUE a 0 1 1") ++ line (codes "x") ++ line (codes "END"))
+    ∷ (line (codes "VALUE a 0 1 1") ++ line (codes "x") ++ line (codes "END")) ∷ line (codes "END") ∷ line (codes "END") ∷ []
+unfolding answer text_line digits
+gat_shows_and_touches = refl
+
+absent_key_has_nothing_to_change : replies (room 1) empty_bucket (
+    (0, record (set (codes "a") (codes "x")) { verb = Replace }) ∷ (0, record (at_key Prepend (codes "a")) { block = codes "x" })
+    ∷ (0, record (at_key Incr (codes "a")) { value = 1 }) ∷ (0, record (at_key Decr (codes "a")) { value = 1 })
+    ∷ (0, set (codes "a") (codes "x")) ∷ (0, record (set (codes "a") (codes "y")) { verb = Replace }) ∷ (0, at_key Get (codes "a")) ∷ [])
+    ≡ line (codes "NOT_STORED") ∷ line (codes "NOT_STORED") ∷ line (codes "NOT_FOUND") ∷ line (codes "NOT_FOUND")
+    ∷ line (codes "STORED") ∷ line (codes "STORED") ∷ (line (codes "VALUE a 0 1") ++ line (codes "y") ++ line (codes "END")) ∷ []
+unfolding answer text_line digits
+absent_key_has_nothing_to_change = refl
+
+-- a value of 20 digits is counted, leading zeros among them, and one of 21 is not
+twenty_digits_are_counted : replies (room 1) empty_bucket (
+    (0, set (codes "n") (codes "00000000000000000009")) ∷ (0, record (at_key Incr (codes "n")) { value = 1 })
+    ∷ (0, set (codes "n") (codes "00000000000000000010")) ∷ (0, record (at_key Decr (codes "n")) { value = 1 }) ∷ (0, at_key Get (codes "n"))
+    ∷ (0, set (codes "n") (codes "000000000000000000009")) ∷ (0, record (at_key Incr (codes "n")) { value = 1 }) ∷ [])
+    ≡ line (codes "STORED") ∷ line (codes "10") ∷ line (codes "STORED") ∷ line (codes "9") ∷ (line (codes "VALUE n 0 1") ++ line (codes "9") ++ line (codes "END"))
+    ∷ line (codes "STORED") ∷ line (codes "CLIENT_ERROR cannot increment or decrement non-numeric value") ∷ []
+unfolding answer text_line digits
+twenty_digits_are_counted = refl
+
 flush_empties_the_bucket : replies (room 2) empty_bucket (
     (0, set (codes "a") (codes "x")) ∷ (0, record (at_key Add (codes "a")) { block = codes "y" })
     ∷ (0, record (blank Flush) { last = false }) ∷ (0, at_key Get (codes "a")) ∷ (0, blank Flush) ∷ [])
@@ -101,6 +129,13 @@ noreply_is_silent : replies (room 2) empty_bucket (
     ≡ [] ∷ (a_x ++ line (codes "END")) ∷ [] ∷ line (codes "NOT_FOUND") ∷ []
 unfolding answer text_line digits
 noreply_is_silent = refl
+
+silent_cas_stores : replies (room 1) empty_bucket (
+    (0, set (codes "a") (codes "x")) ∷ (0, record (set (codes "a") (codes "y")) { verb = Cas; unique = 1; noreply = true })
+    ∷ (0, record (set (codes "a") (codes "z")) { verb = Cas; unique = 1; noreply = true }) ∷ (0, at_key Gets (codes "a")) ∷ [])
+    ≡ line (codes "STORED") ∷ [] ∷ [] ∷ (line (codes "VALUE a 0 1 2") ++ line (codes "y") ++ line (codes "END")) ∷ []
+unfolding answer text_line digits
+silent_cas_stores = refl
 
 version_is_told : replies (room 1) empty_bucket ((0, record (blank Fixed) { text = 9 }) ∷ []) ≡ lines (codes "VERSION 1.0.0-sei" ∷ [])
 unfolding answer text_line

@@ -6,6 +6,7 @@ pub mod Items
 pub mod Replies
 pub mod Outcome
 pub mod Answer
+pub mod Found
 pub mod Server
 pub mod Within
 pub mod Views

@@ -18,7 +18,10 @@ pub mod texts;
 pub use call::{CallSpan, Room, Span, Verb};
 pub use geometry::Geometry;
 pub use item::THIRTY_DAYS;
-pub use laws::buckets_stay_within_their_room;
+pub use laws::{
+    buckets_stay_within_their_room, calls_leave_the_rest, cas_compares_the_unique,
+    get_shows_what_was_stored, noreply_changes_the_reply_alone,
+};
 pub use number::number_upto;
 pub use packing::pack;
 pub use server::PlainServer;

@@ -100,4 +100,8 @@ fn a_set_value_is_read_back(rt: HostRuntime) -> Result<(), Fail> {
 #[test]
 fn laws_can_be_called() {
     buckets_stay_within_their_room();
+    get_shows_what_was_stored();
+    cas_compares_the_unique();
+    noreply_changes_the_reply_alone();
+    calls_leave_the_rest();
 }

@@ -2,6 +2,7 @@ pub mod WordLaws
 pub mod FrontLaws
 pub mod CallLaws
 pub mod FitLaws
+pub mod FormLaws
 pub mod StreamLaws
 pub mod Worked
 pub mod TableLaws

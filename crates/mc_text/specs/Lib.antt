@@ -5,6 +5,7 @@ pub mod Commands
 pub mod Meaning
 pub mod Lines
 pub mod Spells
+pub mod Forms
 pub mod Front
 pub mod Reads
 pub mod Stream

@@ -30,10 +30,14 @@ line_says line = words_say (words (without_cr line))
 abbrev pub too_long : Meaning
 too_long = One (fixed line_too_long_text false) true
 
+-- the end of a block
+abbrev pub crlf : List ℕ
+crlf = 13 ∷ 10 ∷ []
+
 -- the text that refuses a block, if it is refused: by the two bytes behind it, and then by the limit
 abbrev pub block_refusal : Limits → List ℕ → List ℕ → Option ℕ
 block_refusal l block ending =
-    if bytes_eq ending (13 ∷ 10 ∷ []) then (if nat_le (length block) l.value_bytes then None else Some object_too_large_text) else Some bad_data_chunk_text
+    if bytes_eq ending crlf then (if nat_le (length block) l.value_bytes then None else Some object_too_large_text) else Some bad_data_chunk_text
 
 abbrev pub settled : Call → List (List ℕ) → List ℕ → Option ℕ → Meaning
 settled c keys block None = Each (record c { block = block }) keys

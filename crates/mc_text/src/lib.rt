@@ -18,7 +18,7 @@ mod tests;
 mod words;
 
 pub use cursor::Cursor;
-pub use laws::{any_cut, calls_fit, no_dead_end, one_spelling};
+pub use laws::{any_cut, blocks_mean, calls_fit, lines_mean, no_dead_end, one_spelling};
 pub use limits::Limits;
 pub use reader::{ReadRequest, parse, read_front, read_request};
 pub use request::Request;
