@@ -1,12 +1,11 @@
 -- Lines that are read are fit, and a script that reads has a valid geometry.
-use Rattle.std.proofs.Common.{◌≡◌, ℕ, ◌≤◌, Bool, true, false, List, [], ◌∷◌, ◌++◌, length, refl, sym, ◌∙◌, subst, ◌+◌, arith, Some, None, Option, IsSome, Ok, Err, Result, IfOk}
+use Rattle.std.proofs.Common.{◌≡◌, ℕ, ◌≤◌, Bool, true, false, List, [], ◌∷◌, ◌++◌, length, refl, sym, ◌∙◌, subst, ◌+◌, ◌<◌, arith, Some, None, Option, IsSome, Ok, Err, Result, IfOk}
 use Rattle.std.specs.Prelude.{if◌then◌else◌, ◌==◌, nat_le, nat_lt, codes, ⊤}
 use Rattle.std.specs.Str.{bytes_eq}
 use Rattle.std.specs.Str.Lines.{strip_carriage_return}
 use Rattle.std.proofs.lemmas.Bool.Decides.{nat_tests}
 use Rattle.mc_model.specs.declared.geometry.Geometry.{Geometry}
 use Rattle.mc_model.specs.Server.{IsValid}
-use Rattle.sei_fault.specs.declared.plan.Planned.{Planned}
 use Rattle.sei_script.specs.Context.{empty_context, context_after, context_from, context_of, geometry_of}
 use Rattle.sei_script.specs.Escapes.{unescaped}
 use Rattle.sei_script.specs.Faults.{is_planned, is_second, once_by, once}
@@ -15,7 +14,7 @@ use Rattle.sei_script.specs.Hexadecimal.{unhexed}
 use Rattle.sei_script.specs.Lines.{word_of, behind_word, first_number, first_exact, last_exact, lines_in}
 use Rattle.sei_script.specs.Plans.{plan_of}
 use Rattle.sei_script.specs.Reading.{Reading, Reads, Fails, whole, goes_on, ends_at, reading_from, reading_of, ReadsAs}
-use Rattle.sei_script.specs.Says.{with_part, at_end, is_in_limits, geometry_numbers, geometry_words, geometry_says, behind_geometry, line_says, open_says, say_says, hex_says, clock_says, fault_says, other_says, kind_says, is_skipped}
+use Rattle.sei_script.specs.Says.{with_part, at_end, is_in_limits, geometry_numbers, geometry_words, geometry_says, behind_geometry, line_says, open_says, say_says, hex_says, of_open, clock_says, fault_says, other_says, kind_says, is_skipped}
 use Rattle.sei_script.specs.Limits.{most_connections}
 use Rattle.sei_script.specs.declared.line.Context.{Context}
 use Rattle.sei_script.specs.declared.line.ScriptLine.{ScriptLine}
@@ -75,32 +74,27 @@ open_fit x rest s =
     part_fit x (first_number rest) _ (λ c. part_fit x c.rest _ (λ mode.
     either x (bytes_eq mode (codes "plain")) _ _ (open_by x c.number (nat_le most_connections c.number) (c.number == x.opens) s refl refl) tt))
 
-say_by : (x : Context) (c : ℕ) (bytes : List ℕ) (known : Bool) → IsSome x.geometry → nat_lt c x.opens ≡ known → Fit x (if known then Line (Say c bytes) else Wrong UnknownConnection)
-say_by x c bytes true s p = (s, grind (arith, nat_tests))
-say_by x c bytes false s p = tt
+open_of_by : (x : Context) (c : ℕ) (line : ScriptLine) (known : Bool) → nat_lt c x.opens ≡ known → (c < x.opens → IsWellPlaced x line) → Fit x (if known then Line line else Wrong UnknownConnection)
+open_of_by x c line true p f = f (grind (arith, nat_tests))
+open_of_by x c line false p f = tt
+
+of_open_fit : (x : Context) (c : ℕ) (line : ScriptLine) → (c < x.opens → IsWellPlaced x line) → Fit x (of_open x c line)
+of_open_fit x c line f = open_of_by x c line (nat_lt c x.opens) refl f
 
 say_fit : (x : Context) (rest : Option (List ℕ)) → IsSome x.geometry → Fit x (say_says x rest)
 say_fit x rest s =
     part_fit x (first_number rest) _ (λ c. part_fit x c.rest _ (λ text. part_fit x (unescaped text) _ (λ bytes.
-    say_by x c.number bytes (nat_lt c.number x.opens) s refl)))
-
-hex_by : (x : Context) (c : ℕ) (bytes : List ℕ) (known : Bool) → IsSome x.geometry → nat_lt c x.opens ≡ known → Fit x (if known then Line (Hex c bytes) else Wrong UnknownConnection)
-hex_by x c bytes true s p = (s, grind (arith, nat_tests))
-hex_by x c bytes false s p = tt
+    of_open_fit x c.number (Say c.number bytes) (λ l. (s, l)))))
 
 hex_fit : (x : Context) (rest : Option (List ℕ)) → IsSome x.geometry → Fit x (hex_says x rest)
 hex_fit x rest s =
     part_fit x (first_number rest) _ (λ c. part_fit x c.rest _ (λ text. part_fit x (unhexed text) _ (λ bytes.
-    hex_by x c.number bytes (nat_lt c.number x.opens) s refl)))
-
-fault_by : (x : Context) (c t : ℕ) (plan : Planned) (known : Bool) → IsSome x.geometry → nat_lt c x.opens ≡ known → Fit x (if known then Line (Fault c t plan) else Wrong UnknownConnection)
-fault_by x c t plan true s p = (s, grind (arith, nat_tests))
-fault_by x c t plan false s p = tt
+    of_open_fit x c.number (Hex c.number bytes) (λ l. (s, l)))))
 
 fault_fit : (x : Context) (rest : Option (List ℕ)) → IsSome x.geometry → Fit x (fault_says x rest)
 fault_fit x rest s =
     part_fit x (first_number rest) _ (λ c. part_fit x (first_exact c.rest) _ (λ t. part_fit x (plan_of t.rest) _ (λ plan.
-    fault_by x c.number t.number plan (nat_lt c.number x.opens) s refl)))
+    of_open_fit x c.number (Fault c.number t.number plan) (λ l. (s, l)))))
 
 clock_fit : (x : Context) (rest : Option (List ℕ)) → IsSome x.geometry → Fit x (clock_says rest)
 clock_fit x rest s = part_fit x (last_exact rest) _ (λ now. s)

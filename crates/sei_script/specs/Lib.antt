@@ -13,3 +13,5 @@ pub mod SaysBytes
 pub mod Reading
 pub mod ReportLines
 pub mod AbortLines
+pub mod Spelling
+pub mod Causes
