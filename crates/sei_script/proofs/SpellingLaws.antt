@@ -11,8 +11,9 @@ use Rattle.mc_model.specs.Server.{IsValid}
 use Rattle.sei_fault.specs.declared.plan.Planned.{Planned}
 use Rattle.sei_script.specs.Escapes.{unescaped}
 use Rattle.sei_script.specs.Context.{context_of}
+use Rattle.sei_script.specs.Effects.{connection_of}
 use Rattle.sei_script.specs.Faults.{is_planned, is_second_line, once}
-use Rattle.sei_script.specs.Causes.{HasKind, OfGeometry, OfOpen, OfSay, OfHex, OfDrain, OfClock, OfFault, MayStand, IsBad, NotSpelled, Second, connection_of, NeedsUnknown, IsCause, IsSaid, PlansAgain, IsSaidOnce}
+use Rattle.sei_script.specs.Causes.{HasKind, OfGeometry, OfOpen, OfSay, OfHex, OfDrain, OfClock, OfFault, MayStand, IsBad, NotSpelled, Second, NeedsUnknown, IsCause, IsSaid, PlansAgain, IsSaidOnce}
 use Rattle.sei_script.specs.Fit.{IsWellPlaced}
 use Rattle.sei_script.specs.Hexadecimal.{unhexed}
 use Rattle.sei_script.specs.Limits.{most_connections}

@@ -1,8 +1,9 @@
 -- What a line says, by its spelling and by what the lines before it tell: it is skipped, it is read, or it is refused.
-use Rattle.std.specs.Prelude.{◌≡◌, ◌≢◌, ◌≤◌, ◌<◌, ℕ, true, false, List, Option, Some, None, IsSome, ◌⊎◌, codes}
+use Rattle.std.specs.Prelude.{◌≡◌, ◌≢◌, ◌≤◌, ◌<◌, ℕ, true, false, List, Some, None, IsSome, ◌⊎◌, codes}
 use Rattle.mc_model.specs.declared.geometry.Geometry.{Geometry}
 use Rattle.mc_model.specs.Server.{IsValid}
 use Rattle.sei_script.specs.Context.{context_of}
+use Rattle.sei_script.specs.Effects.{connection_of}
 use Rattle.sei_script.specs.Faults.{is_planned, is_second_line}
 use Rattle.sei_script.specs.Fit.{IsWellPlaced}
 use Rattle.sei_script.specs.Limits.{most_connections}
@@ -11,7 +12,7 @@ use Rattle.sei_script.specs.Says.{is_skipped}
 use Rattle.sei_script.specs.Spelling.{SpellsLine}
 use Rattle.sei_script.specs.declared.line.Context.{Context}
 use Rattle.sei_script.specs.declared.line.ScriptLine.{ScriptLine}
-use Rattle.sei_script.specs.declared.line.ScriptLine.TheVariants.{Geometry as GeometryLine, Open, Say, Hex, Drain, Clock, Fault}
+use Rattle.sei_script.specs.declared.line.ScriptLine.TheVariants.{Geometry as GeometryLine, Open}
 use Rattle.sei_script.specs.declared.line.Why.{Why}
 use Rattle.sei_script.specs.declared.line.Why.TheVariants.{UnfinishedLine, GeometryMissing, UnknownLine, BadLine, GeometryOutOfLimits, TooManyConnections, WrongNumber, UnknownConnection, SecondFault, TooBig}
 use Rattle.sei_script.specs.declared.line.Said.{Said}
@@ -35,16 +36,6 @@ MayStand x text = IsSome x.geometry ⊎ (word_of text ≡ codes "geometry")
 pub data IsBad (x : Context) (text : List ℕ) : Type 0 where
   NotSpelled : ((s : ScriptLine) → ¬ (SpellsLine text s)) → IsBad x text
   Second : IsSome x.geometry → word_of text ≡ codes "geometry" → IsBad x text
-
--- the connection that a line needs open
-abbrev pub connection_of : ScriptLine → Option ℕ
-connection_of (GeometryLine g) = None
-connection_of (Open c) = None
-connection_of (Say c bytes) = Some c
-connection_of (Hex c bytes) = Some c
-connection_of Drain = None
-connection_of (Clock now) = None
-connection_of (Fault c t plan) = Some c
 
 -- a line is spelled whose connection is not open
 pub record NeedsUnknown (x : Context) (text : List ℕ) : Type 0 where

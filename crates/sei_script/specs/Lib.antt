@@ -5,6 +5,7 @@ pub mod Unescapes
 pub mod Lines
 pub mod Hexadecimal
 pub mod Plans
+pub mod Effects
 pub mod Context
 pub mod Says
 pub mod Faults
