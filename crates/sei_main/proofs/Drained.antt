@@ -5,10 +5,10 @@ use Rattle.std.proofs.lemmas.Bool.Decides.{nat_tests}
 use Rattle.std.proofs.lemmas.List.{get_or_past}
 use Rattle.mc_text.specs.Meaning.{Meaning}
 use Rattle.sei_script.specs.declared.line.ScriptLine.{ScriptLine}
-use Rattle.sei_script.specs.declared.line.ScriptLine.TheVariants as lines
-use Rattle.sei_main.specs.Quiet.{is_drain, ends_in_drain}
+use Rattle.sei_script.specs.Effects.{Effect, Serves, effect_of}
+use Rattle.sei_main.specs.Quiet.{is_serving, is_drain, ends_in_drain}
 use Rattle.sei_main.specs.Seats.{Seat, empty_seat}
-use Rattle.sei_main.specs.State.{led_by, State, Told, Went, idle, behind, step, step_front, next_request, limits_of, seat_at, round_from, round, rounds, bytes_waiting}
+use Rattle.sei_main.specs.State.{done_by, led_by, State, Told, Went, idle, behind, step, step_front, next_request, limits_of, seat_at, round_from, round, rounds, bytes_waiting}
 use Rattle.sei_main.specs.Run.{plain_after, plain_run_from}
 use Rattle.sei_main.proofs.Rounds.{Goes, round_goes, round_took}
 use Rattle.sei_main.proofs.Stepping.{plain_steps}
@@ -68,15 +68,13 @@ pub rounds_end : (m : ℕ) (s : State) → bytes_waiting s.seats < m → (round 
 rounds_end zero s h = absurd (omega (arith, h))
 rounds_end (suc m) s h = end_by m s (round s).went refl (λ e. rounds_end m (round s).state (omega (arith, h, round_took step plain_steps s e)))
 
+serving_ends : (s : State) (e : Effect) → is_serving e ≡ true → (round (done_by step s e).state).went ≡ false
+serving_ends s Serves e = rounds_end (bytes_waiting s.seats + 1) s (omega arith)
+serving_ends s other e = cc
+
 last_drains : (t : Told) (line : ScriptLine) → is_drain line ≡ true → (round (plain_after t line).state).went ≡ false
 unfolding led_by
-last_drains t (lines.Geometry g) e = cc
-last_drains t (lines.Open c) e = cc
-last_drains t (lines.Say c bytes) e = cc
-last_drains t (lines.Hex c bytes) e = cc
-last_drains t lines.Drain e = rounds_end (bytes_waiting t.state.seats + 1) t.state (omega arith)
-last_drains t (lines.Clock now) e = cc
-last_drains t (lines.Fault c n plan) e = cc
+last_drains t line e = serving_ends t.state (effect_of line) e
 
 -- a script that ends in a drain
 pub drain_ends : (t : Told) (script : List ScriptLine) → ends_in_drain script ≡ true → (round (plain_run_from t script).state).went ≡ false

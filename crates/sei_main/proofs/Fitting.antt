@@ -1,11 +1,11 @@
 -- The lines of a script that are left, behind those that were run.
 use Rattle.std.proofs.Common.{◌≡◌, ℕ, ◌≤◌, List, ◌∷◌, length, ◌∙◌, ap, arith}
 use Rattle.sei_script.specs.declared.line.ScriptLine.{ScriptLine}
-use Rattle.sei_script.specs.declared.line.ScriptLine.TheVariants as lines
+use Rattle.sei_script.specs.Effects.{Effect, Opens, effect_of}
 use Rattle.sei_script.specs.declared.line.Context.{Context}
 use Rattle.sei_script.specs.Limits.{most_connections}
-use Rattle.sei_script.specs.Context.{context_after}
-use Rattle.sei_script.specs.Fit.{IsWellPlaced, AreFit}
+use Rattle.sei_script.specs.Context.{context_by, context_after}
+use Rattle.sei_script.specs.Fit.{IsPlaced, AreFit}
 use Rattle.sei_main.specs.State.{Stepping, StateOf, led_by}
 use Rattle.sei_main.proofs.Rounds.{IsStepping, led_length}
 
@@ -16,14 +16,9 @@ pub record FitBehind (opens : ℕ) (script : List ScriptLine) : Type 0 where
   pub few : opens ≤ most_connections
   pub fit : AreFit context script
 
-few_by : (opens : ℕ) (x : Context) (line : ScriptLine) → opens ≡ x.opens → opens ≤ most_connections → IsWellPlaced x line → (context_after x line).opens ≤ most_connections
-few_by opens x (lines.Geometry g) e h f = omega (arith, e, h)
-few_by opens x (lines.Open c) e h f = omega (arith, f.1, f.2)
-few_by opens x (lines.Say c bytes) e h f = omega (arith, e, h)
-few_by opens x (lines.Hex c bytes) e h f = omega (arith, e, h)
-few_by opens x lines.Drain e h f = omega (arith, e, h)
-few_by opens x (lines.Clock now) e h f = omega (arith, e, h)
-few_by opens x (lines.Fault c t plan) e h f = omega (arith, e, h)
+few_by : (opens : ℕ) (x : Context) (e : Effect) → opens ≡ x.opens → opens ≤ most_connections → IsPlaced x e → (context_by x e).opens ≤ most_connections
+few_by opens x (Opens c) e h f = omega (arith, f.1, f.2)
+few_by opens x other e h f = omega (arith, e, h)
 
 module _ {S : Type 0} (step : Stepping S) (law : IsStepping step) where
   -- and the lines behind it may be run then
@@ -33,6 +28,6 @@ module _ {S : Type 0} (step : Stepping S) (law : IsStepping step) where
       record {
         context = context_after f.context line;
         opens_is = size;
-        few = omega (arith, size, few_by (length s.seats) f.context line f.opens_is f.few f.fit.0);
+        few = omega (arith, size, few_by (length s.seats) f.context (effect_of line) f.opens_is f.few f.fit.0);
         fit = f.fit.1;
       }

@@ -1,5 +1,5 @@
 -- What a run keeps.
-use Rattle.std.proofs.Common.{◌≡◌, ◌≢◌, ℕ, zero, suc, ◌+◌, ◌<◌, Bool, true, false, List, [], ◌∷◌, ◌++◌, length, refl, ap, sym, ◌∙◌, subst, arith}
+use Rattle.std.proofs.Common.{◌≡◌, ◌≢◌, ℕ, zero, suc, ◌+◌, ◌<◌, ◌^◌, Bool, true, false, List, [], ◌∷◌, ◌++◌, length, refl, ap, sym, ◌∙◌, subst, arith}
 use Rattle.std.specs.Prelude.{if◌then◌else◌, ◌==◌, slice_set, slice_index_or, All}
 use Rattle.std.proofs.lemmas.Bool.Decides.{nat_tests}
 use Rattle.std.proofs.lemmas.List.{append_assoc, append-nil, get_or-set_same, get_or-set_other}
@@ -10,11 +10,11 @@ use Rattle.mc_model.specs.Server.{Server, empty_server}
 use Rattle.mc_text.specs.declared.limits.Limits.{Limits}
 use Rattle.sei_fault.specs.declared.plan.Planned.{Planned}
 use Rattle.sei_script.specs.declared.line.ScriptLine.{ScriptLine}
-use Rattle.sei_script.specs.declared.line.ScriptLine.TheVariants as lines
+use Rattle.sei_script.specs.Effects.{Effect, Opens, Feeds, Serves, SetsClock, effect_of}
 use Rattle.sei_script.specs.declared.line.Context.{Context}
 use Rattle.sei_script.specs.Context.{geometry_of, context_after}
-use Rattle.sei_script.specs.Fit.{IsWellPlaced, AreFit}
-use Rattle.sei_script.specs.SaysBytes.{SaysBytes}
+use Rattle.sei_script.specs.Fit.{IsPlaced, IsWellPlaced, AreFit}
+use Rattle.sei_script.specs.SaysBytes.{DoesBytes, SaysBytes}
 use Rattle.sei_main.specs.declared.plans.CallNumber.{CallNumber}
 use Rattle.sei_main.specs.Answering.{Answering}
 use Rattle.sei_main.specs.History.{Entry}
@@ -22,10 +22,10 @@ use Rattle.sei_main.specs.Own.{own_entries}
 use Rattle.sei_main.specs.Events.{Event, entries_of, sent_to}
 use Rattle.sei_main.specs.Plans.{plans_of}
 use Rattle.sei_main.specs.Seats.{Seat, empty_seat, fed_more}
-use Rattle.sei_main.specs.State.{ToldOf, Stepping, told, idle, seat_at, led_by, limits_of, bytes_waiting}
+use Rattle.sei_main.specs.State.{ToldOf, Stepping, told, idle, seat_at, done_by, led_by, limits_of, bytes_waiting}
 use Rattle.sei_main.specs.Run.{start_of, after_by, run_from_by, run_by}
 use Rattle.sei_main.specs.Serving.{step_by}
-use Rattle.sei_main.specs.Headline.{fed_to, fed_by}
+use Rattle.sei_main.specs.Headline.{fed_to, fed_in, fed_by}
 use Rattle.sei_main.proofs.EndLaws.{goes_nil, ends_none}
 use Rattle.sei_main.proofs.Kept.{Kept, rounds_keep}
 use Rattle.sei_main.proofs.KeptServer.{start_server}
@@ -52,8 +52,8 @@ one_more_seat (x ∷ seats) zero = refl
 one_more_seat (x ∷ seats) (suc c) = one_more_seat seats c
 
 -- a line that feeds these bytes to connection c
-abbrev Feeds : ℕ → List ℕ → ScriptLine → Type 0
-Feeds c bytes line = (d : ℕ) → fed_by d line ≡ (if c == d then bytes else [])
+abbrev IsFeeding : ℕ → List ℕ → ScriptLine → Type 0
+IsFeeding c bytes line = (d : ℕ) → fed_by d line ≡ (if c == d then bytes else [])
 
 empty_at : (c : ℕ) → slice_index_or [] c empty_seat ≡ empty_seat
 empty_at zero = refl
@@ -94,7 +94,7 @@ module _ {S : Type 0} (R : S → Server → Type 0) (g : Geometry) (plans : List
       subst (λ (es : List Event). Kept R g plans fed' (record { state = record t.state { seats = seats }; events = es })) (sym (append-nil t.events)) kept
 
   -- the clock answers otherwise
-  clocked : (fed : ℕ → List ℕ) (t : ToldOf S) (now : ℕ) → SaysBytes (lines.Clock now) → Kept R g plans fed t → Kept R g plans fed (told t (idle (record t.state { clock = now })))
+  clocked : (fed : ℕ → List ℕ) (t : ToldOf S) (now : ℕ) → now < 2 ^ 64 → Kept R g plans fed t → Kept R g plans fed (told t (idle (record t.state { clock = now })))
   clocked fed t now small k =
       let kept : Kept R g plans fed (record { state = record t.state { clock = now }; events = t.events }) = record {
         geometry = k.geometry;
@@ -111,7 +111,7 @@ module _ {S : Type 0} (R : S → Server → Type 0) (g : Geometry) (plans : List
       subst (λ (es : List Event). Kept R g plans fed (record { state = record t.state { clock = now }; events = es })) (sym (append-nil t.events)) kept
 
   -- a line feeds bytes
-  module _ (p : List ScriptLine) (t : ToldOf S) (c : ℕ) (bytes : List ℕ) (line : ScriptLine) (feeds : Feeds c bytes line) (inside : c < length t.state.seats) (k : Kept R g plans (λ n. fed_to n p) t) where
+  module _ (p : List ScriptLine) (t : ToldOf S) (c : ℕ) (bytes : List ℕ) (line : ScriptLine) (feeds : IsFeeding c bytes line) (inside : c < length t.state.seats) (k : Kept R g plans (λ n. fed_to n p) t) where
     abbrev l : Limits
     l = limits_of g
 
@@ -147,28 +147,29 @@ module _ {S : Type 0} (answering : Answering S) (R : S → Server → Type 0) (g
   abbrev stepping : Stepping S
   stepping = step_by answering
 
+  -- what a line does, by its effect
+  done_keeps : (p : List ScriptLine) (t : ToldOf S) (x : Context) (line : ScriptLine) (does : Effect) → effect_of line ≡ does → DoesBytes does → length t.state.seats ≡ x.opens → IsPlaced x does
+      → Kept R g plans (λ c. fed_to c p) t → Kept R g plans (λ c. fed_to c (p ++ line ∷ [])) (told t (done_by stepping t.state does))
+  done_keeps p t x line (Opens n) same says e f k =
+      quiet R g plans (λ c. fed_to c p) (λ c. fed_to c (p ++ line ∷ [])) t (t.state.seats ++ empty_seat ∷ []) k
+      (All-push IsFedBytes t.state.seats empty_seat k.bytes (All-nil (λ b. b < 256)))
+      (λ c. refed_seat (length plans) (limits_of g) (fed_to c p) _ _ _ _ (fed_none c p line (ap (fed_in c) same))
+      (subst (λ (s : Seat). SeatStands (length plans) (limits_of g) (fed_to c p) (own_entries c (entries_of t.events)) (sent_to c t.events) s) (sym (one_more_seat t.state.seats c)) (k.seats c)))
+  done_keeps p t x line (Feeds n bytes) same says e f k = said R g plans p t n bytes line (λ c. ap (fed_in c) same) (omega (arith, e, f.1)) k says
+  done_keeps p t x line Serves same says e f k =
+      refed R g plans (λ c. fed_to c p) (λ c. fed_to c (p ++ line ∷ [])) (told t (done_by stepping t.state Serves)) (λ c. fed_none c p line (ap (fed_in c) same))
+      (rounds_keep answering R g isolates asks some plans (λ c. fed_to c p) (bytes_waiting t.state.seats + 1) t k)
+  done_keeps p t x line (SetsClock now) same says e f k =
+      refed R g plans (λ c. fed_to c p) (λ c. fed_to c (p ++ line ∷ [])) (told t (done_by stepping t.state (SetsClock now))) (λ c. fed_none c p line (ap (fed_in c) same))
+      (clocked R g plans (λ c. fed_to c p) t now says k)
+  done_keeps p t x line other same says e f k =
+      refed R g plans (λ c. fed_to c p) (λ c. fed_to c (p ++ line ∷ [])) (told t (idle t.state)) (λ c. fed_none c p line (ap (fed_in c) same))
+      (quiet R g plans (λ c. fed_to c p) (λ c. fed_to c p) t t.state.seats k k.bytes k.seats)
+
   led_keeps : (p : List ScriptLine) (t : ToldOf S) (x : Context) (line : ScriptLine) → SaysBytes line → length t.state.seats ≡ x.opens → IsWellPlaced x line → Kept R g plans (λ c. fed_to c p) t
       → Kept R g plans (λ c. fed_to c (p ++ line ∷ [])) (after_by stepping t line)
   unfolding led_by
-  led_keeps p t x (lines.Geometry n) says e f k =
-      refed R g plans (λ c. fed_to c p) (λ c. fed_to c (p ++ lines.Geometry n ∷ [])) (after_by stepping t (lines.Geometry n)) (λ c. fed_none c p (lines.Geometry n) refl)
-      (quiet R g plans (λ c. fed_to c p) (λ c. fed_to c p) t t.state.seats k k.bytes k.seats)
-  led_keeps p t x (lines.Open n) says e f k =
-      quiet R g plans (λ c. fed_to c p) (λ c. fed_to c (p ++ lines.Open n ∷ [])) t (t.state.seats ++ empty_seat ∷ []) k
-      (All-push IsFedBytes t.state.seats empty_seat k.bytes (All-nil (λ b. b < 256)))
-      (λ c. refed_seat (length plans) (limits_of g) (fed_to c p) _ _ _ _ (fed_none c p (lines.Open n) refl)
-      (subst (λ (s : Seat). SeatStands (length plans) (limits_of g) (fed_to c p) (own_entries c (entries_of t.events)) (sent_to c t.events) s) (sym (one_more_seat t.state.seats c)) (k.seats c)))
-  led_keeps p t x (lines.Say n bytes) says e f k = said R g plans p t n bytes (lines.Say n bytes) (λ c. refl) (omega (arith, e, f.1)) k says
-  led_keeps p t x (lines.Hex n bytes) says e f k = said R g plans p t n bytes (lines.Hex n bytes) (λ c. refl) (omega (arith, e, f.1)) k says
-  led_keeps p t x lines.Drain says e f k =
-      refed R g plans (λ c. fed_to c p) (λ c. fed_to c (p ++ lines.Drain ∷ [])) (after_by stepping t lines.Drain) (λ c. fed_none c p lines.Drain refl)
-      (rounds_keep answering R g isolates asks some plans (λ c. fed_to c p) (bytes_waiting t.state.seats + 1) t k)
-  led_keeps p t x (lines.Clock now) says e f k =
-      refed R g plans (λ c. fed_to c p) (λ c. fed_to c (p ++ lines.Clock now ∷ [])) (after_by stepping t (lines.Clock now)) (λ c. fed_none c p (lines.Clock now) refl)
-      (clocked R g plans (λ c. fed_to c p) t now says k)
-  led_keeps p t x (lines.Fault n m plan) says e f k =
-      refed R g plans (λ c. fed_to c p) (λ c. fed_to c (p ++ lines.Fault n m plan ∷ [])) (after_by stepping t (lines.Fault n m plan)) (λ c. fed_none c p (lines.Fault n m plan) refl)
-      (quiet R g plans (λ c. fed_to c p) (λ c. fed_to c p) t t.state.seats k k.bytes k.seats)
+  led_keeps p t x line says e f k = done_keeps p t x line (effect_of line) refl says e f k
 
   run_from_keeps : (p : List ScriptLine) (t : ToldOf S) (x : Context) (script : List ScriptLine) → All SaysBytes script → length t.state.seats ≡ x.opens → AreFit x script → Kept R g plans (λ c. fed_to c p) t
       → Kept R g plans (λ c. fed_to c (p ++ script)) (run_from_by stepping t script)

@@ -7,11 +7,11 @@ use Rattle.mc_text.specs.Meaning.{Meaning}
 use Rattle.mc_text.specs.Front.{front}
 use Rattle.mc_text.proofs.Public.{front_length}
 use Rattle.sei_script.specs.declared.line.ScriptLine.{ScriptLine}
-use Rattle.sei_script.specs.declared.line.ScriptLine.TheVariants as lines
+use Rattle.sei_script.specs.Effects.{Effect, Opens, Feeds, Serves, effect_of}
 use Rattle.sei_script.specs.declared.line.Context.{Context}
-use Rattle.sei_script.specs.Context.{context_after}
+use Rattle.sei_script.specs.Context.{context_by, context_after}
 use Rattle.sei_main.specs.Seats.{Seat, empty_seat, waiting, taken_more}
-use Rattle.sei_main.specs.State.{Stepping, StateOf, WentOf, behind, idle, led_by, next_request, round_from_by, round_by, rounds_by, drained_by, bytes_waiting}
+use Rattle.sei_main.specs.State.{Stepping, StateOf, WentOf, behind, idle, done_by, led_by, next_request, round_from_by, round_by, rounds_by, drained_by, bytes_waiting}
 use Rattle.sei_main.specs.Becomes.{Becomes}
 use Rattle.sei_main.proofs.Steps.{behind_idle}
 
@@ -139,13 +139,13 @@ module _ {S : Type 0} (step : Stepping S) (law : IsStepping step) where
   rounds_length zero s = refl
   rounds_length (suc m) s = rounds_length_by m s (round_by step s).went (rounds_length m)
 
+  done_length : (s : StateOf S) (x : Context) (e : Effect) → length s.seats ≡ x.opens → length (done_by step s e).state.seats ≡ (context_by x e).opens
+  done_length s x (Opens c) e = length_push s.seats empty_seat ∙ ap (λ (n : ℕ). n + 1) e
+  done_length s x (Feeds c bytes) e = length-set s.seats c _ ∙ e
+  done_length s x Serves e = rounds_length (bytes_waiting s.seats + 1) s ∙ e
+  done_length s x other e = e
+
   -- a line opens what it says
   pub led_length : (s : StateOf S) (x : Context) (line : ScriptLine) → length s.seats ≡ x.opens → length (led_by step s line).state.seats ≡ (context_after x line).opens
   unfolding led_by
-  led_length s x (lines.Geometry g) e = e
-  led_length s x (lines.Open c) e = length_push s.seats empty_seat ∙ ap (λ (n : ℕ). n + 1) e
-  led_length s x (lines.Say c bytes) e = length-set s.seats c _ ∙ e
-  led_length s x (lines.Hex c bytes) e = length-set s.seats c _ ∙ e
-  led_length s x lines.Drain e = rounds_length (bytes_waiting s.seats + 1) s ∙ e
-  led_length s x (lines.Clock now) e = e
-  led_length s x (lines.Fault c t plan) e = e
+  led_length s x line e = done_length s x (effect_of line) e

@@ -13,9 +13,9 @@ use Rattle.sei_traverse.specs.declared.turned.State.{State as EndState}
 use Rattle.sei_traverse.specs.declared.turned.State.TheVariants.{Finished}
 use Rattle.sei_script.specs.AbortLines.{end_text}
 use Rattle.sei_script.specs.declared.line.ScriptLine.{ScriptLine}
-use Rattle.sei_script.specs.declared.line.ScriptLine.TheVariants as lines
+use Rattle.sei_script.specs.Effects.{Effect, Opens, Feeds, Serves, SetsClock, PlansFault, effect_of}
 use Rattle.sei_script.specs.Context.{geometry_of}
-use Rattle.sei_script.specs.SaysBytes.{SaysBytes}
+use Rattle.sei_script.specs.SaysBytes.{DoesBytes, SaysBytes}
 use Rattle.sei_main.specs.declared.plans.CallNumber.{CallNumber}
 use Rattle.sei_main.specs.declared.world.service.Served.{Served}
 use Rattle.sei_main.specs.Answering.{Asked, Answering, plain_served}
@@ -25,10 +25,10 @@ use Rattle.sei_main.proofs.Outcomes.{AsksCalls, unplanned}
 use Rattle.sei_main.specs.Own.{message_of, messages_of}
 use Rattle.sei_main.specs.Events.{Event, Entered, entries_of}
 use Rattle.sei_main.specs.History.{Entry}
-use Rattle.sei_main.specs.Plans.{plans_from}
-use Rattle.sei_main.specs.Quiet.{is_quiet, is_quiet_line}
+use Rattle.sei_main.specs.Plans.{plans_by, plans_from}
+use Rattle.sei_main.specs.Quiet.{is_quiet, is_quiet_effect, is_quiet_line}
 use Rattle.sei_main.specs.Seats.{Seat, empty_seat, waiting, fed_more, taken_more}
-use Rattle.sei_main.specs.State.{State, Told, Went, StateOf, ToldOf, WentOf, answers, takes_request, step_front, step, entry_for, entry_events, limits_of, next_request, bytes_waiting, idle, behind, seat_at, fed, round_from_by, round_by, rounds_by, led_by}
+use Rattle.sei_main.specs.State.{State, Told, Went, StateOf, ToldOf, WentOf, answers, takes_request, step_front, step, entry_for, entry_events, limits_of, next_request, bytes_waiting, idle, behind, seat_at, fed, round_from_by, round_by, rounds_by, done_by, led_by}
 use Rattle.sei_main.specs.Serving.{Asking, RequestResult, asking_at, asked_in, served_events, sent_events, seat_for, closing_events, is_abort, on_with, answer_in, answers_by, takes_request_by, step_front_by, step_by}
 use Rattle.sei_main.specs.Run.{start_of, after_by, run_from_by, run_by}
 use Rattle.sei_main.specs.Report.{events_text, seats_text, closing_text, report_of}
@@ -227,10 +227,8 @@ module _ {S : Type 0} (answering : Answering S) (g : Geometry) (R : S → Server
           right_goes = a.right_goes;
         })
 
-    led_alike : (s : StateOf S) (t : State) (line : ScriptLine) → SaysBytes line → Alike R g s t → WentAlike R g (led_by (step_by answering) s line) (led_by step t line)
-    unfolding led_by
-    led_alike s t (lines.Geometry n) h a = idle_alike R g s t a
-    led_alike s t (lines.Open c) h a =
+    done_alike : (s : StateOf S) (t : State) (does : Effect) → DoesBytes does → Alike R g s t → WentAlike R g (done_by (step_by answering) s does) (done_by step t does)
+    done_alike s t (Opens c) h a =
         idle_alike R g (record s { seats = s.seats ++ empty_seat ∷ [] }) (record t { seats = t.seats ++ empty_seat ∷ [] })
         (record {
           left = a.left;
@@ -244,14 +242,17 @@ module _ {S : Type 0} (answering : Answering S) (g : Geometry) (R : S → Server
           goes = a.goes;
           right_goes = a.right_goes;
         })
-    led_alike s t (lines.Say c bytes) h a = fed_alike s t c bytes h a
-    led_alike s t (lines.Hex c bytes) h a = fed_alike s t c bytes h a
-    led_alike s t lines.Drain h a =
+    done_alike s t (Feeds c bytes) h a = fed_alike s t c bytes h a
+    done_alike s t Serves h a =
         went_same R g _ _ _ _ (ap (λ (seats : List Seat). rounds_by (step_by answering) (bytes_waiting seats + 1) s) a.seats) refl (rounds_alike (bytes_waiting t.seats + 1) s t a)
-    led_alike s t (lines.Clock now) h a =
+    done_alike s t (SetsClock now) h a =
         idle_alike R g (record s { clock = now }) (record t { clock = now })
         (record { left = a.left; right = a.right; server = a.server; seats = a.seats; bytes = a.bytes; clock = refl; small = h; plans = a.plans; goes = a.goes; right_goes = a.right_goes })
-    led_alike s t (lines.Fault c n plan) h a = idle_alike R g s t a
+    done_alike s t other h a = idle_alike R g s t a
+
+    led_alike : (s : StateOf S) (t : State) (line : ScriptLine) → SaysBytes line → Alike R g s t → WentAlike R g (led_by (step_by answering) s line) (led_by step t line)
+    unfolding led_by
+    led_alike s t line h a = done_alike s t (effect_of line) h a
 
     run_from_alike : (t : ToldOf S) (u : Told) (script : List ScriptLine) → All SaysBytes script → ToldAlike R g t u → ToldAlike R g (run_from_by (step_by answering) t script) (run_from_by step u script)
     run_from_alike t u [] h a = a
@@ -268,15 +269,15 @@ both : (a b : Bool) → (a && b) ≡ true → (a ≡ true) × (b ≡ true)
 both true b e = (refl, e)
 both false b e = cc
 
+plans_none : (does : Effect) → is_quiet_effect does ≡ true → plans_by [] does ≡ []
+plans_none (PlansFault c t plan) e = cc
+plans_none other e = refl
+
 pub plans_nothing : (script : List ScriptLine) → list_all is_quiet_line script ≡ true → plans_from [] script ≡ []
 plans_nothing [] e = refl
-plans_nothing (lines.Geometry g ∷ script) e = plans_nothing script (both true (list_all is_quiet_line script) e).1
-plans_nothing (lines.Open c ∷ script) e = plans_nothing script (both true (list_all is_quiet_line script) e).1
-plans_nothing (lines.Say c bytes ∷ script) e = plans_nothing script (both true (list_all is_quiet_line script) e).1
-plans_nothing (lines.Hex c bytes ∷ script) e = plans_nothing script (both true (list_all is_quiet_line script) e).1
-plans_nothing (lines.Drain ∷ script) e = plans_nothing script (both true (list_all is_quiet_line script) e).1
-plans_nothing (lines.Clock now ∷ script) e = plans_nothing script (both true (list_all is_quiet_line script) e).1
-plans_nothing (lines.Fault c t plan ∷ script) e = absurd (let z : ⊥ = cc in z)
+plans_nothing (line ∷ script) e =
+    let quiet : (is_quiet_line line ≡ true) × (list_all is_quiet_line script ≡ true) = both (is_quiet_line line) (list_all is_quiet_line script) e in
+    ap (λ (plans : List (CallNumber × Planned)). plans_from plans script) (plans_none (effect_of line) quiet.0) ∙ plans_nothing script quiet.1
 
 module _ {S : Type 0} (answering : Answering S) (R : S → Server → Type 0) (script : List ScriptLine) (isolates : IsolatesFaults answering (geometry_of script) R) (says : All SaysBytes script) (asks : AsksCalls (geometry_of script))
     (quiet : is_quiet script ≡ true) (s : S) (t : Server) (r : R s t) where

@@ -1,11 +1,11 @@
 -- What the code's steps make of the world.
-use Rattle.std.specs.Prelude.{◌≡◌, ℕ, ◌<◌, ◌≤◌, ◌++◌, Bool, Option, Some, None, List, length, take, ⊤}
+use Rattle.std.specs.Prelude.{◌≡◌, ℕ, ◌<◌, ◌≤◌, ◌++◌, Bool, Option, Some, None, List, length, take, IfSome}
 use Rattle.mc_text.specs.declared.limits.Limits.{Limits}
 use Rattle.mc_text.specs.declared.request.Request.{Request}
 use Rattle.mc_text.specs.Reading.{IsReading, calls_at, meaning_at}
 use Rattle.mc_text.specs.Meaning.{ends_connection}
 use Rattle.sei_script.specs.declared.line.ScriptLine.{ScriptLine}
-use Rattle.sei_script.specs.declared.line.ScriptLine.TheVariants as lines
+use Rattle.sei_script.specs.Effects.{connection_of}
 use Rattle.sei_fault.specs.declared.plan.Planned.{Planned}
 use Rattle.sei_main.specs.declared.plans.CallNumber.{CallNumber}
 use Rattle.sei_main.specs.Answering.{Answering}
@@ -61,10 +61,4 @@ module _ {S : Type 0} (answering : Answering S) where
 
 -- a line speaks of a connection that is there, where it speaks of one
 abbrev pub IsKnown : ℕ → ScriptLine → Type 0
-IsKnown opens (lines.Geometry g) = ⊤
-IsKnown opens (lines.Open c) = ⊤
-IsKnown opens (lines.Say c bytes) = c < opens
-IsKnown opens (lines.Hex c bytes) = c < opens
-IsKnown opens lines.Drain = ⊤
-IsKnown opens (lines.Clock now) = ⊤
-IsKnown opens (lines.Fault c t plan) = c < opens
+IsKnown opens line = IfSome (connection_of line) (λ c. c < opens)

@@ -3,7 +3,7 @@ use Rattle.std.specs.Prelude.{◌≡◌, ℕ, Bool, true, false, List, [], lengt
 use Rattle.std.specs.List.{flat_map}
 use Rattle.mc_text.specs.Stream.{Takes, own_calls, own_requests, IsPrefixOf}
 use Rattle.sei_script.specs.declared.line.ScriptLine.{ScriptLine}
-use Rattle.sei_script.specs.declared.line.ScriptLine.TheVariants as lines
+use Rattle.sei_script.specs.Effects.{Effect, Feeds, effect_of}
 use Rattle.sei_script.specs.Context.{geometry_of}
 use Rattle.sei_main.specs.Quiet.{is_quiet, ends_in_drain}
 use Rattle.mc_text.specs.declared.limits.Limits.{Limits}
@@ -16,14 +16,13 @@ use Rattle.sei_main.specs.State.{limits_of, seat_at}
 use Rattle.sei_main.specs.Run.{plain_run_of, run_of}
 use Rattle.sei_main.specs.Report.{report_of}
 
+abbrev pub fed_in : ℕ → Effect → List ℕ
+fed_in c (Feeds d bytes) = if d == c then bytes else []
+fed_in c other = []
+
+-- the bytes that a line feeds to connection c
 abbrev pub fed_by : ℕ → ScriptLine → List ℕ
-fed_by c (lines.Geometry g) = []
-fed_by c (lines.Open d) = []
-fed_by c (lines.Say d bytes) = if d == c then bytes else []
-fed_by c (lines.Hex d bytes) = if d == c then bytes else []
-fed_by c lines.Drain = []
-fed_by c (lines.Clock now) = []
-fed_by c (lines.Fault d t plan) = []
+fed_by c line = fed_in c (effect_of line)
 
 -- all bytes that a script feeds to a connection
 abbrev pub fed_to : ℕ → List ScriptLine → List ℕ

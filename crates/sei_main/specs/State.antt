@@ -10,7 +10,7 @@ use Rattle.mc_text.specs.Meaning.{Meaning, calls_of, ends_connection}
 use Rattle.mc_text.specs.Front.{front}
 use Rattle.sei_fault.specs.declared.plan.Planned.{Planned}
 use Rattle.sei_script.specs.declared.line.ScriptLine.{ScriptLine}
-use Rattle.sei_script.specs.declared.line.ScriptLine.TheVariants as lines
+use Rattle.sei_script.specs.Effects.{Effect, Opens, Feeds, Serves, SetsClock, effect_of}
 use Rattle.sei_main.specs.declared.plans.CallNumber.{CallNumber}
 use Rattle.sei_main.specs.History.{Entry}
 use Rattle.sei_main.specs.Own.{message_of, messages_of}
@@ -100,15 +100,16 @@ module _ {S : Type 0} (step : Stepping S) where
   abbrev pub drained_by : StateOf S → WentOf S
   drained_by s = rounds_by (bytes_waiting s.seats + 1) s
 
+  abbrev pub done_by : StateOf S → Effect → WentOf S
+  done_by s (Opens c) = idle (record s { seats = s.seats ++ empty_seat ∷ [] })
+  done_by s (Feeds c bytes) = idle (fed s c bytes)
+  done_by s Serves = drained_by s
+  done_by s (SetsClock now) = idle (record s { clock = now })
+  done_by s other = idle s
+
   -- what a line of a script does
   unfoldable pub led_by : StateOf S → ScriptLine → WentOf S
-  led_by s (lines.Geometry g) = idle s
-  led_by s (lines.Open c) = idle (record s { seats = s.seats ++ empty_seat ∷ [] })
-  led_by s (lines.Say c bytes) = idle (fed s c bytes)
-  led_by s (lines.Hex c bytes) = idle (fed s c bytes)
-  led_by s lines.Drain = drained_by s
-  led_by s (lines.Clock now) = idle (record s { clock = now })
-  led_by s (lines.Fault c t plan) = idle s
+  led_by s line = done_by s (effect_of line)
 
 -- the same of the plain server, which knows no faults
 abbrev pub State : Type 0

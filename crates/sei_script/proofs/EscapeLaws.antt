@@ -9,7 +9,7 @@ joined_none : (o : Option (List ℕ)) → joined [] o ≡ o
 joined_none None = refl
 joined_none (Some bytes) = refl
 
-hex_value-hex_digit : (n : ℕ) → n < 16 → hex_value (hex_digit n) ≡ Some n
+pub hex_value-hex_digit : (n : ℕ) → n < 16 → hex_value (hex_digit n) ≡ Some n
 hex_value-hex_digit n h = grind (arith, nat_tests)
 
 -- a byte as it is printed, and more text

@@ -4,11 +4,11 @@ use Rattle.std.specs.Prelude.{◌||◌, ◌&&◌, ◌==◌, nat_lt, if◌then◌
 use Rattle.std.specs.Ordering.{nat_cmp, ordering_then, is_eq}
 use Rattle.std.specs.declared.cmp.Ordering.TheVariants.{Less, Equal, Greater}
 use Rattle.std.proofs.lemmas.Bool.Decides.{nat_tests}
-use Rattle.sei_script.specs.Faults.{plans, is_planned, is_second_line, is_second, once_by, once, traversal_cmp, holds}
+use Rattle.sei_script.specs.Effects.{Effect, PlansFault, effect_of}
+use Rattle.sei_script.specs.Faults.{plans, is_planned, is_second_by, is_second, once_by, once, traversal_cmp, holds}
 use Rattle.sei_script.specs.declared.traversals.Traversal.{Traversal}
 use Rattle.sei_script.specs.declared.traversals.Traversals.{Traversals}
 use Rattle.sei_script.specs.declared.line.ScriptLine.{ScriptLine}
-use Rattle.sei_script.specs.declared.line.ScriptLine.TheVariants.{Geometry, Open, Say, Hex, Drain, Clock, Fault}
 use Rattle.sei_script.specs.declared.line.Why.TheVariants.{SecondFault}
 use Rattle.sei_script.specs.declared.line.Said.{Said}
 use Rattle.sei_script.specs.declared.line.Said.TheVariants.{Nothing, Line, Wrong}
@@ -27,18 +27,13 @@ planned_more [] line c t = one_line (plans c t line)
 planned_more (first ∷ script) line c t =
     ap (λ (b : Bool). plans c t first || b) (planned_more script line c t) ∙ or_more (plans c t first) (is_planned script c t) (plans c t line)
 
-second_line_same : (f g : ℕ → ℕ → Bool) (line : ScriptLine) → ((c t : ℕ) → f c t ≡ g c t) → is_second_line f line ≡ is_second_line g line
-second_line_same f g (Geometry x) h = refl
-second_line_same f g (Open c) h = refl
-second_line_same f g (Say c bytes) h = refl
-second_line_same f g (Hex c bytes) h = refl
-second_line_same f g Drain h = refl
-second_line_same f g (Clock now) h = refl
-second_line_same f g (Fault c t plan) h = h c t
+second_by_same : (f g : ℕ → ℕ → Bool) (e : Effect) → ((c t : ℕ) → f c t ≡ g c t) → is_second_by f e ≡ is_second_by g e
+second_by_same f g (PlansFault c t plan) h = h c t
+second_by_same f g other h = refl
 
 second_same : (f g : ℕ → ℕ → Bool) (said : Said) → ((c t : ℕ) → f c t ≡ g c t) → is_second f said ≡ is_second g said
 second_same f g Nothing h = refl
-second_same f g (Line line) h = second_line_same f g line h
+second_same f g (Line line) h = second_by_same f g (effect_of line) h
 second_same f g (Wrong why) h = refl
 
 -- what is known of the lines before decides

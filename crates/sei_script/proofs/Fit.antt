@@ -1,21 +1,21 @@
 -- Lines that are read are fit, and a script that reads has a valid geometry.
-use Rattle.std.proofs.Common.{◌≡◌, ℕ, ◌≤◌, Bool, true, false, List, [], ◌∷◌, ◌++◌, length, refl, sym, ◌∙◌, subst, ◌+◌, arith, Some, None, Option, IsSome, Ok, Err, Result, IfOk}
+use Rattle.std.proofs.Common.{◌≡◌, ℕ, ◌≤◌, Bool, true, false, List, [], ◌∷◌, ◌++◌, length, refl, sym, ◌∙◌, subst, ◌+◌, ◌<◌, arith, Some, None, Option, IsSome, Ok, Err, Result, IfOk}
 use Rattle.std.specs.Prelude.{if◌then◌else◌, ◌==◌, nat_le, nat_lt, codes, ⊤}
 use Rattle.std.specs.Str.{bytes_eq}
 use Rattle.std.specs.Str.Lines.{strip_carriage_return}
 use Rattle.std.proofs.lemmas.Bool.Decides.{nat_tests}
 use Rattle.mc_model.specs.declared.geometry.Geometry.{Geometry}
 use Rattle.mc_model.specs.Server.{IsValid}
-use Rattle.sei_fault.specs.declared.plan.Planned.{Planned}
-use Rattle.sei_script.specs.Context.{empty_context, context_after, context_from, context_of, geometry_of}
+use Rattle.sei_script.specs.Context.{empty_context, context_by, context_after, context_from, context_of, geometry_or, geometry_of}
+use Rattle.sei_script.specs.Effects.{Effect, Sizes, Opens, Feeds, Serves, SetsClock, PlansFault, effect_of}
 use Rattle.sei_script.specs.Escapes.{unescaped}
 use Rattle.sei_script.specs.Faults.{is_planned, is_second, once_by, once}
-use Rattle.sei_script.specs.Fit.{IsWellPlaced, AreFit}
+use Rattle.sei_script.specs.Fit.{IsPlaced, IsWellPlaced, AreFit}
 use Rattle.sei_script.specs.Hexadecimal.{unhexed}
 use Rattle.sei_script.specs.Lines.{word_of, behind_word, first_number, first_exact, last_exact, lines_in}
 use Rattle.sei_script.specs.Plans.{plan_of}
 use Rattle.sei_script.specs.Reading.{Reading, Reads, Fails, whole, goes_on, ends_at, reading_from, reading_of, ReadsAs}
-use Rattle.sei_script.specs.Says.{with_part, at_end, is_in_limits, geometry_numbers, geometry_words, geometry_says, behind_geometry, line_says, open_says, say_says, hex_says, clock_says, fault_says, other_says, kind_says, is_skipped}
+use Rattle.sei_script.specs.Says.{with_part, at_end, is_in_limits, geometry_numbers, geometry_words, geometry_says, behind_geometry, line_says, open_says, say_says, hex_says, of_open, clock_says, fault_says, other_says, kind_says, is_skipped}
 use Rattle.sei_script.specs.Limits.{most_connections}
 use Rattle.sei_script.specs.declared.line.Context.{Context}
 use Rattle.sei_script.specs.declared.line.ScriptLine.{ScriptLine}
@@ -75,32 +75,27 @@ open_fit x rest s =
     part_fit x (first_number rest) _ (λ c. part_fit x c.rest _ (λ mode.
     either x (bytes_eq mode (codes "plain")) _ _ (open_by x c.number (nat_le most_connections c.number) (c.number == x.opens) s refl refl) tt))
 
-say_by : (x : Context) (c : ℕ) (bytes : List ℕ) (known : Bool) → IsSome x.geometry → nat_lt c x.opens ≡ known → Fit x (if known then Line (Say c bytes) else Wrong UnknownConnection)
-say_by x c bytes true s p = (s, grind (arith, nat_tests))
-say_by x c bytes false s p = tt
+open_of_by : (x : Context) (c : ℕ) (line : ScriptLine) (known : Bool) → nat_lt c x.opens ≡ known → (c < x.opens → IsWellPlaced x line) → Fit x (if known then Line line else Wrong UnknownConnection)
+open_of_by x c line true p f = f (grind (arith, nat_tests))
+open_of_by x c line false p f = tt
+
+of_open_fit : (x : Context) (c : ℕ) (line : ScriptLine) → (c < x.opens → IsWellPlaced x line) → Fit x (of_open x c line)
+of_open_fit x c line f = open_of_by x c line (nat_lt c x.opens) refl f
 
 say_fit : (x : Context) (rest : Option (List ℕ)) → IsSome x.geometry → Fit x (say_says x rest)
 say_fit x rest s =
     part_fit x (first_number rest) _ (λ c. part_fit x c.rest _ (λ text. part_fit x (unescaped text) _ (λ bytes.
-    say_by x c.number bytes (nat_lt c.number x.opens) s refl)))
-
-hex_by : (x : Context) (c : ℕ) (bytes : List ℕ) (known : Bool) → IsSome x.geometry → nat_lt c x.opens ≡ known → Fit x (if known then Line (Hex c bytes) else Wrong UnknownConnection)
-hex_by x c bytes true s p = (s, grind (arith, nat_tests))
-hex_by x c bytes false s p = tt
+    of_open_fit x c.number (Say c.number bytes) (λ l. (s, l)))))
 
 hex_fit : (x : Context) (rest : Option (List ℕ)) → IsSome x.geometry → Fit x (hex_says x rest)
 hex_fit x rest s =
     part_fit x (first_number rest) _ (λ c. part_fit x c.rest _ (λ text. part_fit x (unhexed text) _ (λ bytes.
-    hex_by x c.number bytes (nat_lt c.number x.opens) s refl)))
-
-fault_by : (x : Context) (c t : ℕ) (plan : Planned) (known : Bool) → IsSome x.geometry → nat_lt c x.opens ≡ known → Fit x (if known then Line (Fault c t plan) else Wrong UnknownConnection)
-fault_by x c t plan true s p = (s, grind (arith, nat_tests))
-fault_by x c t plan false s p = tt
+    of_open_fit x c.number (Hex c.number bytes) (λ l. (s, l)))))
 
 fault_fit : (x : Context) (rest : Option (List ℕ)) → IsSome x.geometry → Fit x (fault_says x rest)
 fault_fit x rest s =
     part_fit x (first_number rest) _ (λ c. part_fit x (first_exact c.rest) _ (λ t. part_fit x (plan_of t.rest) _ (λ plan.
-    fault_by x c.number t.number plan (nat_lt c.number x.opens) s refl)))
+    of_open_fit x c.number (Fault c.number t.number plan) (λ l. (s, l)))))
 
 clock_fit : (x : Context) (rest : Option (List ℕ)) → IsSome x.geometry → Fit x (clock_says rest)
 clock_fit x rest s = part_fit x (last_exact rest) _ (λ now. s)
@@ -139,50 +134,49 @@ pub fit_more : (x : Context) (script : List ScriptLine) (line : ScriptLine) → 
 fit_more x [] line h f = (f, tt)
 fit_more x (first ∷ script) line h f = (h.0, fit_more (context_after x first) script line h.1 f)
 
+few_by : (x : Context) (e : Effect) → x.opens ≤ most_connections → IsPlaced x e → (context_by x e).opens ≤ most_connections
+few_by x (Opens c) h f = omega (arith, f.1, f.2)
+few_by x other h f = h
+
 -- no more connections are opened than there may be
 pub few_more : (x : Context) (line : ScriptLine) → x.opens ≤ most_connections → IsWellPlaced x line → (context_after x line).opens ≤ most_connections
-few_more x (GeometryLine g) h f = h
-few_more x (Open c) h f = omega (arith, f.1, f.2)
-few_more x (Say c bytes) h f = h
-few_more x (Hex c bytes) h f = h
-few_more x Drain h f = h
-few_more x (Clock now) h f = h
-few_more x (Fault c t plan) h f = h
+few_more x line h f = few_by x (effect_of line) h f
 
 -- a geometry stays
-geometry_after : (x : Context) (line : ScriptLine) (g : Geometry) → x.geometry ≡ Some g → IsWellPlaced x line → (context_after x line).geometry ≡ Some g
-geometry_after x (GeometryLine h) g e f = absurd (none_and_some (f.0) e)
+geometry_stays : (x : Context) (e : Effect) (g : Geometry) → x.geometry ≡ Some g → IsPlaced x e → (context_by x e).geometry ≡ Some g
+geometry_stays x (Sizes h) g e f = absurd (none_and_some (f.0) e)
   where
     none_and_some : x.geometry ≡ None → x.geometry ≡ Some g → ⊥
     none_and_some p q = cc
-geometry_after x (Open c) g e f = e
-geometry_after x (Say c bytes) g e f = e
-geometry_after x (Hex c bytes) g e f = e
-geometry_after x Drain g e f = e
-geometry_after x (Clock now) g e f = e
-geometry_after x (Fault c t plan) g e f = e
+geometry_stays x other g e f = e
 
 geometry_from : (x : Context) (script : List ScriptLine) (g : Geometry) → x.geometry ≡ Some g → AreFit x script → (context_from x script).geometry ≡ Some g
 geometry_from x [] g e h = e
-geometry_from x (line ∷ script) g e h = geometry_from (context_after x line) script g (geometry_after x line g e h.0) h.1
+geometry_from x (line ∷ script) g e h = geometry_from (context_after x line) script g (geometry_stays x (effect_of line) g e h.0) h.1
 
--- the geometry that the reader knows at the end is that of the first line, and valid
-pub record IsGeometry (script : List ScriptLine) (g : Geometry) : Type 0 where
-  pub first : g ≡ geometry_of script
+-- the geometry that the reader knows at the end is the one that is meant, and valid
+pub record IsGeometry (meant g : Geometry) : Type 0 where
+  pub first : g ≡ meant
   pub valid : IsValid g
 
-pub geometry_known : (script : List ScriptLine) (g : Geometry) → AreFit empty_context script → (context_of script).geometry ≡ Some g → IsGeometry script g
-geometry_known [] g h e = cc
-geometry_known (GeometryLine first ∷ script) g h e =
-    let both : Some first ≡ Some g = sym (geometry_from (context_after empty_context (GeometryLine first)) script first refl h.1) ∙ e in
+no_geometry : {A : Type 0} → IsSome (empty_context).geometry → A
+no_geometry h = let none : false ≡ true = h in cc
+
+known_by : (script : List ScriptLine) (e : Effect) (g : Geometry) → IsPlaced empty_context e → AreFit (context_by empty_context e) script → (context_from (context_by empty_context e) script).geometry ≡ Some g
+    → IsGeometry (geometry_or e (geometry_of script)) g
+known_by script (Sizes first) g p h e =
+    let both : Some first ≡ Some g = sym (geometry_from (context_by empty_context (Sizes first)) script first refl h) ∙ e in
     let same : first ≡ g = cc in
-    record { first = sym same; valid = subst (λ (x : Geometry). IsValid x) same h.0.1 }
-geometry_known (Open c ∷ script) g h e = let none : false ≡ true = h.0.0 in cc
-geometry_known (Say c bytes ∷ script) g h e = let none : false ≡ true = h.0.0 in cc
-geometry_known (Hex c bytes ∷ script) g h e = let none : false ≡ true = h.0.0 in cc
-geometry_known (Drain ∷ script) g h e = let none : false ≡ true = h.0 in cc
-geometry_known (Clock now ∷ script) g h e = let none : false ≡ true = h.0 in cc
-geometry_known (Fault c t plan ∷ script) g h e = let none : false ≡ true = h.0.0 in cc
+    record { first = sym same; valid = subst (λ (x : Geometry). IsValid x) same p.1 }
+known_by script (Opens c) g p h e = no_geometry p.0
+known_by script (Feeds c bytes) g p h e = no_geometry p.0
+known_by script Serves g p h e = no_geometry p
+known_by script (SetsClock now) g p h e = no_geometry p
+known_by script (PlansFault c t plan) g p h e = no_geometry p.0
+
+pub geometry_known : (script : List ScriptLine) (g : Geometry) → AreFit empty_context script → (context_of script).geometry ≡ Some g → IsGeometry (geometry_of script) g
+geometry_known [] g h e = cc
+geometry_known (line ∷ script) g h e = known_by script (effect_of line) g h.0 h.1 e
 
 -- what is known of a script that reads
 pub record IsRead (script : List ScriptLine) : Type 0 where
@@ -194,7 +188,7 @@ whole_read : (script : List ScriptLine) (number : ℕ) (g : Option Geometry) (re
 whole_read script number None read h k e = cc
 whole_read script number (Some g) read h k e =
     let same : script ≡ read = cc in
-    let known : IsGeometry script g = geometry_known script g h k in
+    let known : IsGeometry (geometry_of script) g = geometry_known script g h k in
     subst (λ (s : List ScriptLine). IsRead s) same (record { fit = h; valid = subst (λ (x : Geometry). IsValid x) known.first known.valid })
 
 goes_read : (script : List ScriptLine) (number : ℕ) (said : Said) (next : List ScriptLine → Reading) (read : List ScriptLine) → AreFit empty_context script → Fit (context_of script) said

@@ -8,4 +8,8 @@ pub mod CappedWords
 pub mod Fit
 pub mod SaysLaws
 pub mod Limits
+pub mod Numerals
+pub mod WordLaws
+pub mod PlanLaws
+pub mod SpellingLaws
 pub mod Public

@@ -22,7 +22,7 @@ valid_in_limits g e =
       few_words = grind (arith, nat_tests);
     }
 
-in_limits_valid : (g : Geometry) → IsValid g → is_in_limits g ≡ true
+pub in_limits_valid : (g : Geometry) → IsValid g → is_in_limits g ≡ true
 in_limits_valid g h = grind (arith, nat_tests)
 
 abbrev geometry_by : Bool → Geometry → Said

@@ -3,37 +3,33 @@ use Rattle.std.specs.Prelude.{ℕ, Bool, false, ◌||◌, ◌&&◌, ◌==◌, if
 use Rattle.std.specs.Ordering.{nat_cmp, ordering_then}
 use Rattle.std.specs.declared.cmp.Ordering.{Ordering}
 use Rattle.std.specs.BTreeSet.{contains}
+use Rattle.sei_script.specs.Effects.{Effect, PlansFault, effect_of}
 use Rattle.sei_script.specs.declared.traversals.Traversal.{Traversal}
 use Rattle.sei_script.specs.declared.traversals.Traversals.{Traversals}
 use Rattle.sei_script.specs.declared.line.ScriptLine.{ScriptLine}
-use Rattle.sei_script.specs.declared.line.ScriptLine.TheVariants.{Geometry, Open, Say, Hex, Drain, Clock, Fault}
 use Rattle.sei_script.specs.declared.line.Why.TheVariants.{SecondFault}
 use Rattle.sei_script.specs.declared.line.Said.{Said}
 use Rattle.sei_script.specs.declared.line.Said.TheVariants.{Nothing, Line, Wrong}
 
+abbrev pub plans_by : ℕ → ℕ → Effect → Bool
+plans_by c t (PlansFault d u plan) = d == c && u == t
+plans_by c t other = false
+
 -- whether a line plans a fault for traversal t of connection c
 abbrev pub plans : ℕ → ℕ → ScriptLine → Bool
-plans c t (Geometry g) = false
-plans c t (Open d) = false
-plans c t (Say d bytes) = false
-plans c t (Hex d bytes) = false
-plans c t Drain = false
-plans c t (Clock now) = false
-plans c t (Fault d u plan) = d == c && u == t
+plans c t line = plans_by c t (effect_of line)
 
 -- whether one of these lines does
 abbrev pub is_planned : List ScriptLine → ℕ → ℕ → Bool
 is_planned [] c t = false
 is_planned (line ∷ lines) c t = plans c t line || is_planned lines c t
 
+abbrev pub is_second_by : (ℕ → ℕ → Bool) → Effect → Bool
+is_second_by has (PlansFault c t plan) = has c t
+is_second_by has other = false
+
 abbrev pub is_second_line : (ℕ → ℕ → Bool) → ScriptLine → Bool
-is_second_line has (Geometry g) = false
-is_second_line has (Open c) = false
-is_second_line has (Say c bytes) = false
-is_second_line has (Hex c bytes) = false
-is_second_line has Drain = false
-is_second_line has (Clock now) = false
-is_second_line has (Fault c t plan) = has c t
+is_second_line has line = is_second_by has (effect_of line)
 
 -- whether a line plans a fault for a traversal that has one
 abbrev pub is_second : (ℕ → ℕ → Bool) → Said → Bool

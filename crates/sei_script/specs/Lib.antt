@@ -5,6 +5,7 @@ pub mod Unescapes
 pub mod Lines
 pub mod Hexadecimal
 pub mod Plans
+pub mod Effects
 pub mod Context
 pub mod Says
 pub mod Faults
@@ -13,3 +14,5 @@ pub mod SaysBytes
 pub mod Reading
 pub mod ReportLines
 pub mod AbortLines
+pub mod Spelling
+pub mod Causes

@@ -3,13 +3,13 @@ use Rattle.std.specs.Prelude.{ℕ, Bool, true, ◌&&◌, List, [], ◌∷◌, na
 use Rattle.std.specs.Str.{bytes_eq}
 use Rattle.std.specs.Str.Lines.{strip_carriage_return}
 use Rattle.mc_model.specs.declared.geometry.Geometry.{Geometry}
-use Rattle.sei_fault.specs.declared.plan.Planned.{Planned}
 use Rattle.sei_script.specs.Escapes.{unescaped}
 use Rattle.sei_script.specs.Hexadecimal.{unhexed}
 use Rattle.sei_script.specs.Lines.{word_of, behind_word, first_number, first_exact, last_exact}
 use Rattle.sei_script.specs.Plans.{plan_of}
 use Rattle.sei_script.specs.Limits.{most_connections}
 use Rattle.sei_script.specs.declared.line.Context.{Context}
+use Rattle.sei_script.specs.declared.line.ScriptLine.{ScriptLine}
 use Rattle.sei_script.specs.declared.line.ScriptLine.TheVariants.{Geometry as GeometryLine, Open, Say, Hex, Drain, Clock, Fault}
 use Rattle.sei_script.specs.declared.line.Why.TheVariants.{GeometryMissing, UnknownLine, BadLine, GeometryOutOfLimits, TooManyConnections, WrongNumber, UnknownConnection}
 use Rattle.sei_script.specs.declared.line.Said.{Said}
@@ -59,17 +59,15 @@ open_says x rest =
     with_part (first_number rest) (λ c. with_part c.rest (λ mode.
     if bytes_eq mode (codes "plain") then open_number x c.number else Wrong BadLine))
 
-abbrev pub say_bytes : Context → ℕ → List ℕ → Said
-say_bytes x c bytes = if nat_lt c x.opens then Line (Say c bytes) else Wrong UnknownConnection
+-- a line that speaks of connection c, which has to be open
+abbrev pub of_open : Context → ℕ → ScriptLine → Said
+of_open x c line = if nat_lt c x.opens then Line line else Wrong UnknownConnection
 
 abbrev pub say_says : Context → Option (List ℕ) → Said
-say_says x rest = with_part (first_number rest) (λ c. with_part c.rest (λ text. with_part (unescaped text) (λ bytes. say_bytes x c.number bytes)))
-
-abbrev pub hex_bytes : Context → ℕ → List ℕ → Said
-hex_bytes x c bytes = if nat_lt c x.opens then Line (Hex c bytes) else Wrong UnknownConnection
+say_says x rest = with_part (first_number rest) (λ c. with_part c.rest (λ text. with_part (unescaped text) (λ bytes. of_open x c.number (Say c.number bytes))))
 
 abbrev pub hex_says : Context → Option (List ℕ) → Said
-hex_says x rest = with_part (first_number rest) (λ c. with_part c.rest (λ text. with_part (unhexed text) (λ bytes. hex_bytes x c.number bytes)))
+hex_says x rest = with_part (first_number rest) (λ c. with_part c.rest (λ text. with_part (unhexed text) (λ bytes. of_open x c.number (Hex c.number bytes))))
 
 abbrev pub drain_says : Option (List ℕ) → Said
 drain_says rest = at_end rest (Line Drain)
@@ -77,12 +75,9 @@ drain_says rest = at_end rest (Line Drain)
 abbrev pub clock_says : Option (List ℕ) → Said
 clock_says rest = with_part (last_exact rest) (λ now. Line (Clock now))
 
-abbrev pub fault_plan : Context → ℕ → ℕ → Planned → Said
-fault_plan x c t plan = if nat_lt c x.opens then Line (Fault c t plan) else Wrong UnknownConnection
-
 -- a fault is planned for a traversal of a connection
 abbrev pub fault_says : Context → Option (List ℕ) → Said
-fault_says x rest = with_part (first_number rest) (λ c. with_part (first_exact c.rest) (λ t. with_part (plan_of t.rest) (λ plan. fault_plan x c.number t.number plan)))
+fault_says x rest = with_part (first_number rest) (λ c. with_part (first_exact c.rest) (λ t. with_part (plan_of t.rest) (λ plan. of_open x c.number (Fault c.number t.number plan))))
 
 -- a line of another kind than `geometry`
 abbrev pub other_says : Context → List ℕ → Option (List ℕ) → Said

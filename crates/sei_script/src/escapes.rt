@@ -1,3 +1,4 @@
+//! Escaped text, read and printed.
 ghost use Rattle.std.specs.Prelude.{◌≡◌, ◌+◌, ◌<◌, ◌++◌, ℕ, List, IfOk, IfSome, OnErr, OnOk, Some};
 ghost use Rattle.sei_script.specs.Escapes.{unescaped, escaped, escape_of, hex_value, hex_digit, step_of, IsPlace};
 ghost use Rattle.sei_script.specs.Unescapes.{Unescapes};

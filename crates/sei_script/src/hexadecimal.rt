@@ -1,3 +1,4 @@
+//! Bytes that are written as pairs of hexadecimal digits.
 ghost use Rattle.std.specs.Prelude.{◌≡◌, ◌≤◌, IfOk, length, drop};
 ghost use Rattle.sei_script.specs.Hexadecimal.{unhexed};
 

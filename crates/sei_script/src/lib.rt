@@ -7,6 +7,7 @@
 mod aborts;
 mod escapes;
 mod hexadecimal;
+mod laws;
 mod line;
 mod lines;
 mod numbers;
@@ -20,8 +21,9 @@ mod words;
 mod write;
 
 pub use aborts::{abort_text, end_text, phase_text};
-pub use escapes::{escape, unescape};
-pub use line::{CONNECTIONS, Context, Said, ScriptLine, Why};
+pub use escapes::escape;
+pub use laws::{lines_are_read_as_spelled, numbers_are_decimal};
+pub use line::{ScriptLine, Why};
 pub use lines::Script;
 pub use reader::{LIMIT, ScriptFault, read_script};
 pub use text::Text;

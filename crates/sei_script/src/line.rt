@@ -1,3 +1,4 @@
+//! A line of a script, what a text line says, and what the lines before it tell of it.
 ghost use Rattle.std.specs.Prelude.{◌≡◌, ◌<◌, ◌^◌, ◌-◌};
 
 use super::text::Text;

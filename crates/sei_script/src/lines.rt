@@ -1,3 +1,4 @@
+//! The lines of a whole script.
 ghost use Rattle.std.specs.Prelude.{◌≡◌, ◌<◌, Some, length, slice_get};
 
 use super::line::ScriptLine;

@@ -1,3 +1,4 @@
+//! Planned faults, as words spell them.
 ghost use Rattle.std.specs.Prelude.{◌≡◌};
 ghost use Rattle.std.specs.Option.{option_map};
 ghost use Rattle.sei_script.specs.Lines.{part};

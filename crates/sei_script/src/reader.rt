@@ -1,3 +1,4 @@
+//! The reader of a whole script.
 ghost use Rattle.std.specs.Prelude.{◌≡◌, ◌<◌, ◌≤◌, IfOk, length, drop, All};
 ghost use Rattle.mc_model.specs.Server.{IsValid};
 ghost use Rattle.sei_script.specs.declared.reader.ScriptFault.TheVariants.{Memory};

@@ -1,8 +1,9 @@
-ghost use Rattle.std.specs.Prelude.{◌≡◌, ◌≤◌, IfOk};
+//! What a line says, by its words and the lines before it.
+ghost use Rattle.std.specs.Prelude.{◌≡◌, ◌≤◌, ◌-◌, ◌^◌, min, IfOk};
 ghost use Rattle.std.specs.Option.{option_map};
 ghost use Rattle.std.specs.Str.Lines.{strip_carriage_return};
 ghost use Rattle.sei_script.specs.Limits.{most_connections};
-ghost use Rattle.sei_script.specs.Says.{geometry_numbers, geometry_words, geometry_says, open_number, open_says, say_bytes, say_says, hex_bytes, hex_says, drain_says, clock_says, fault_plan, fault_says, other_says, kind_says, is_skipped, line_says};
+ghost use Rattle.sei_script.specs.Says.{geometry_numbers, geometry_words, geometry_says, open_number, open_says, of_open, say_says, hex_says, drain_says, clock_says, fault_says, other_says, kind_says, is_skipped, line_says};
 
 use super::escapes::unescape;
 use super::hexadecimal::unhex;
@@ -11,7 +12,6 @@ use super::plans::plan_of;
 use super::text::Text;
 use super::words::{behind_word, first_exact, first_number, last_exact, word_of};
 use mc_model::Geometry;
-use sei_fault::Planned;
 use std::alloc::{AllocError, Global};
 
 fn geometry_numbers(buckets: u64, slots: u64, value_words: u64) -> Said
@@ -88,12 +88,19 @@ fn open_says(context: Context, rest: Option<&[u8]>) -> Said
     }
 }
 
-fn say_bytes(context: Context, c: u64, bytes: Text) -> Said
-    requires { context.opens ≤ most_connections }
-    ensures { result ≡ say_bytes context c bytes }
+/// The connection with this number, at most the last u32.
+fn connection(c: u64) -> u32
+    ensures { result ≡ min c (2 ^ 32 - 1) }
 {
-    if c < context.opens as u64 {
-        Said::Line(ScriptLine::Say { c: c as u32, bytes })
+    c.min(u32::MAX as u64) as u32
+}
+
+/// A line that speaks of connection `c`, which has to be open.
+fn of_open(context: Context, c: u32, line: ScriptLine) -> Said
+    ensures { result ≡ of_open context c line }
+{
+    if c < context.opens {
+        Said::Line(line)
     } else {
         Said::Wrong(Why::UnknownConnection)
     }
@@ -111,18 +118,10 @@ fn say_says(alloc: Global, context: Context, rest: Option<&[u8]>) -> Result<Said
     };
     match unescape(alloc, text)? {
         None => Ok(Said::Wrong(Why::BadLine)),
-        Some(bytes) => Ok(say_bytes(context, c.number, bytes)),
-    }
-}
-
-fn hex_bytes(context: Context, c: u64, bytes: Text) -> Said
-    requires { context.opens ≤ most_connections }
-    ensures { result ≡ hex_bytes context c bytes }
-{
-    if c < context.opens as u64 {
-        Said::Line(ScriptLine::Hex { c: c as u32, bytes })
-    } else {
-        Said::Wrong(Why::UnknownConnection)
+        Some(bytes) => {
+            let c = connection(c.number);
+            Ok(of_open(context, c, ScriptLine::Say { c, bytes }))
+        }
     }
 }
 
@@ -138,7 +137,10 @@ fn hex_says(alloc: Global, context: Context, rest: Option<&[u8]>) -> Result<Said
     };
     match unhex(alloc, text)? {
         None => Ok(Said::Wrong(Why::BadLine)),
-        Some(bytes) => Ok(hex_bytes(context, c.number, bytes)),
+        Some(bytes) => {
+            let c = connection(c.number);
+            Ok(of_open(context, c, ScriptLine::Hex { c, bytes }))
+        }
     }
 }
 
@@ -160,21 +162,6 @@ fn clock_says(rest: Option<&[u8]>) -> Said
     }
 }
 
-fn fault_plan(context: Context, c: u64, t: u64, plan: Planned) -> Said
-    requires { context.opens ≤ most_connections }
-    ensures { result ≡ fault_plan context c t plan }
-{
-    if c < context.opens as u64 {
-        Said::Line(ScriptLine::Fault {
-            c: c as u32,
-            t,
-            plan,
-        })
-    } else {
-        Said::Wrong(Why::UnknownConnection)
-    }
-}
-
 fn fault_says(context: Context, rest: Option<&[u8]>) -> Said
     requires { context.opens ≤ most_connections }
     ensures { result ≡ fault_says context (option_map (λ x. x.now) rest.entry) }
@@ -187,7 +174,10 @@ fn fault_says(context: Context, rest: Option<&[u8]>) -> Said
     };
     match plan_of(t.rest) {
         None => Said::Wrong(Why::BadLine),
-        Some(plan) => fault_plan(context, c.number, t.number, plan),
+        Some(plan) => {
+            let (c, t) = (connection(c.number), t.number);
+            of_open(context, c, ScriptLine::Fault { c, t, plan })
+        }
     }
 }
 

@@ -1,3 +1,4 @@
+//! Bytes without escapes, as a list.
 ghost use Rattle.std.specs.Prelude.{◌≡◌};
 
 use std::marker::Model;

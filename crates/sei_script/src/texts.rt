@@ -1,3 +1,4 @@
+//! The lines of a report but those of aborts.
 ghost use Rattle.std.specs.Prelude.{◌≡◌, ◌+◌, ◌++◌, IfOk, OnOk};
 ghost use Rattle.std.specs.Fmt.{decimal};
 ghost use Rattle.sei_script.specs.ReportLines.{reply_text, entry_text, sent_text, closed_text, refused_text, took_text, left_text, why_text, refusal_text};

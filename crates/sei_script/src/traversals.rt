@@ -1,3 +1,4 @@
+//! The traversals for which a fault is planned.
 ghost use Rattle.std.specs.Prelude.{◌≡◌, ◌||◌, ℕ, OnOk, false};
 ghost use Rattle.sei_script.specs.Faults.{plans, is_second, once_by, holds};
 

@@ -8,5 +8,4 @@ returns-in-Some-plan_of c =
     let text = option_map {T = Bor (List ℕ)} {U = List ℕ} (λ x. x.now) in
     let n = c.in-Some.c in
     let t = c.in-Some-first_exact.t in
-    c.fault_plan.ensures
-    ∙ fault_found c.args.context (text c.args.rest) (text n.rest) n.number t.number c.in-Some-plan_of.plan (text t.rest) c.requires c.in-Some.ensures c.in-Some-first_exact.ensures c.in-Some-plan_of.ensures
+    c.of_open.ensures ∙ rw c.connection-c.ensures (fault_found c.args.context (text c.args.rest) (text n.rest) n.number t.number c.in-Some-plan_of.plan (text t.rest) c.requires c.in-Some.ensures c.in-Some-first_exact.ensures c.in-Some-plan_of.ensures)
