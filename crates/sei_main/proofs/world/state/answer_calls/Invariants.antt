@@ -1,6 +1,6 @@
 use Rattle.std.proofs.Common.{◌≡◌, ◌≤◌, length}
 use Rattle.mc_text.specs.Reading.{calls_at}
-use Rattle.mc_text.specs.Workspace.{IsAt, place_of}
+use Rattle.mc_text.specs.Walk.{IsAt, place_of}
 use Rattle.sei_traverse.specs.declared.turned.State.TheVariants.{Finished}
 use Rattle.sei_main.specs.Becomes.{asking_of}
 use Rattle.sei_main.proofs.CallsSoFar.{CallsSoFar}
