@@ -226,7 +226,7 @@ module _ (told : Option ℕ) where
   times_notes g now later w words act Skip answer again = λ p. Same refl
   times_notes g now later w words act Twice answer again = twice_notes g now later w words answer again
 
-  step_notes : (g : Given) (now later : ℕ) (w : Workspace) (words : List ℕ) (o : Option Act) → IsAnswer told now → IsAnswer told later → Always (NotesOn w) (step_at g now later w words o)
+  step_notes : (g : Given) (now later : ℕ) (w : Workspace) (words : List ℕ) (o : Option Act) → IsAnswer told now → IsAnswer told later → Always (NotesOn w) (step_at o g now later w words)
   step_notes g now later w words None answer again = Same refl
   step_notes g now later w words (Some act) answer again = λ times. times_notes g now later w words act times answer again
 

@@ -25,7 +25,6 @@ use Rattle.sei_stmt.specs.Machine.Outcome.{Next, Halted, Bad}
 use Rattle.sei_stmt.specs.Statements.{statement_tree, step_tree}
 use Rattle.sei_stmt.proofs.PublicStatementEnds.{by_statement}
 use Rattle.sei_pass.specs.declared.given.Which.TheVariants.{Making, Reading}
-use Rattle.sei_pass.specs.declared.given.Sealed.{Sealed}
 use Rattle.sei_pass.specs.Setting.{sealed_call}
 use Rattle.sei_pass.specs.State.{PassState, IsPass}
 use Rattle.sei_pass.proofs.Public.{Keeps, keeps}
@@ -41,7 +40,7 @@ use Rattle.sei_traverse.specs.PassActs.{pass_of, first_machine, second_machine, 
 use Rattle.sei_traverse.specs.Phases.{guard_call, store_wanted, take_wanted, undone_as, undone_to, compared, entries_to, outputs_to, word_to, reply_of, copy_bytes, wire_to, verify_copy, send_want}
 use Rattle.sei_traverse.specs.Given.{Given, setting_in}
 use Rattle.sei_traverse.specs.Step.{StepResult, act_in, act_tree, site_of, skipped, goes, goes_on, once, unless_ended, twice, step_as, step_at, traversal_step}
-use Rattle.sei_traverse.specs.Workspaces.{IsWorkspace}
+use Rattle.sei_traverse.specs.Workspaces.{IsWorkspace, FitsIn}
 use Rattle.sei_traverse.proofs.StepsBound.{always_bound, always_any}
 use Rattle.sei_traverse.proofs.WordsLast.{Lasts, lasts}
 
@@ -86,10 +85,6 @@ ran_step s i m = by_statement s i m (Always (Ran (parsed_words s.parsed) s.budge
       words = l;
     })
     (keeps s i from st) (lasts s i from st))
-
--- the input words of the sealed call go in
-abbrev pub FitsIn : PassSpace → (ℕ → Option Parsed) → Sealed → Type 0
-FitsIn k parsed sealed = length (parsed_words (sealed_call parsed sealed.nth)) ≤ k.input
 
 -- a workspace and the words behind another one, in this space and for these calls
 pub record KeepsWorkspace (k : PassSpace) (parsed : ℕ → Option Parsed) (w : Workspace) (words : List ℕ) (v : Workspace) (left : List ℕ) : Type 0 where
@@ -373,7 +368,7 @@ module _ (k : PassSpace) (parsed : ℕ → Option Parsed) where
     times_kept now later v words act Skip h = goes_kept v words (skipped v act) h
     times_kept now later v words act Twice h = twice_kept now later v words h
 
-    step_at_kept : (now later : ℕ) (v : Workspace) (words : List ℕ) (o : Option Act) → KeepsWorkspace k parsed w before v words → Always KeptOn (step_at g now later v words o)
+    step_at_kept : (now later : ℕ) (v : Workspace) (words : List ℕ) (o : Option Act) → KeepsWorkspace k parsed w before v words → Always KeptOn (step_at o g now later v words)
     step_at_kept now later v words None h = h
     step_at_kept now later v words (Some act) h = λ times. times_kept now later v words act times h
 

@@ -264,7 +264,7 @@ times_made g now later w words act Once = once_made g now w w words (same_made w
 times_made g now later w words act Skip = λ p. same_made w
 times_made g now later w words act Twice = twice_made g now later w words
 
-step_result_made : (g : Given) (now later : ℕ) (w : Workspace) (words : List ℕ) (o : Option Act) → Always (Remade w) (step_at g now later w words o)
+step_result_made : (g : Given) (now later : ℕ) (w : Workspace) (words : List ℕ) (o : Option Act) → Always (Remade w) (step_at o g now later w words)
 step_result_made g now later w words None = same_made w
 step_result_made g now later w words (Some act) = λ times. times_made g now later w words act times
 
@@ -284,7 +284,7 @@ ending_up k n v words (Aborts cause) onto h = absurd cc
 
 -- an honest step that goes on comes further
 site_up : (k : PassSpace) (g : Given) (now later : ℕ) (w : Workspace) (words : List ℕ) (o : Option Act) → Fits k w →
-    (honest (step_at g now later w words o)).state ≡ Went → reached k w < reached k (honest (step_at g now later w words o)).workspace
+    (honest (step_at o g now later w words)).state ≡ Went → reached k w < reached k (honest (step_at o g now later w words)).workspace
 site_up k g now later w words None fits h = absurd cc
 site_up k g now later w words (Some act) fits h =
     let y : Acted = honest (act_tree g now w words) in

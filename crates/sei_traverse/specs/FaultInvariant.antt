@@ -93,7 +93,8 @@ closing_want w phase = Nothing
 -- and Send where the reply is not empty
 pub data ClosesOnce (e : CallContext) (old new : Workspace) (ended : Type 0) : Type 0 where
   Stays : new.gate.done ≡ old.gate.done → new.want ≡ Nothing → ClosesOnce e old new ended
-  Closes : (phase : Phase) → old.place.phase ≡ phase → old.gate.done ≡ phase_number phase → new.gate.done ≡ old.gate.done + 1 → new.want ≡ closing_want new phase → ClosesOnce e old new ended
+  Closes : (phase : Phase) → old.place.phase ≡ phase → old.gate.done ≡ phase_number phase → new.gate.done ≡ old.gate.done + 1 →
+      new.want ≡ closing_want new phase → ClosesOnce e old new ended
   Lacks : old.gate.done ≡ 1 → new.gate.done ≡ 2 → new.want ≡ Nothing → e.space.geometry.buckets ≤ new.wanted → ended → ClosesOnce e old new ended
 
 -- the step aborts

@@ -42,8 +42,11 @@ take_wanted g words w =
     then ends (record w { want = WantTake w.wanted }) words (Leads (at First 0))
     else ends w words (Aborts (Range w.wanted))
 
+abbrev pub take_closing : Geometry → Workspace → List ℕ → Tree Acted
+take_closing g w words = closing_then Take w words (take_wanted g words)
+
 abbrev pub take_tree : Given → ℕ → Workspace → List ℕ → Tree Acted
-take_tree g index w words = if index == 0 then store_wanted g w words else closing_then Take w words (take_wanted g.space.geometry words)
+take_tree g index w words = if index == 0 then store_wanted g w words else take_closing g.space.geometry w words
 
 -- Restore: the changes of the first log are undone, the last one first
 
@@ -54,10 +57,13 @@ undone_as w words index (Some cause) = ends w words (Aborts cause)
 abbrev pub undone_to : Workspace → ℕ → Undone → Tree Acted
 undone_to w index u = undone_as w u.words index u.cause
 
+abbrev pub undo_tree : ℕ → Workspace → List ℕ → Tree Acted
+undo_tree index w words = bound (undo_at words (slice_get w.first_log.items (length w.first_log.items - 1 - index))) (undone_to w index)
+
 abbrev pub restore_tree : ℕ → Workspace → List ℕ → Tree Acted
 restore_tree index w words =
     if nat_lt index (length w.first_log.items)
-    then bound (undo_at words (slice_get w.first_log.items (length w.first_log.items - 1 - index))) (undone_to w index)
+    then undo_tree index w words
     else closes Restore w words Nothing (at Second 0)
 
 -- Compare: the entries of both logs, one by one, and then the outputs
@@ -72,11 +78,14 @@ entries_to w words index same = if same then ends w words (Leads (at Compare (in
 abbrev pub outputs_to : Workspace → List ℕ → Bool → Tree Acted
 outputs_to w words same = if same then closes Compare w words Nothing (at Verify 0) else ends w words (Aborts Replies)
 
+abbrev pub entries_tree : ℕ → Workspace → List ℕ → Tree Acted
+entries_tree index w words = bound (entry_tree w.first_log.items w.second_log.items index) (entries_to w words index)
+
+abbrev pub outputs_tree : Workspace → List ℕ → Tree Acted
+outputs_tree w words = bound (codes_tree w.first.code w.first.bytes.items w.second.code w.second.bytes.items) (outputs_to w words)
+
 abbrev pub compare_tree : ℕ → Workspace → List ℕ → Tree Acted
-compare_tree index w words =
-    if nat_lt index (compared w)
-    then bound (entry_tree w.first_log.items w.second_log.items index) (entries_to w words index)
-    else bound (codes_tree w.first.code w.first.bytes.items w.second.code w.second.bytes.items) (outputs_to w words)
+compare_tree index w words = if nat_lt index (compared w) then entries_tree index w words else outputs_tree w words
 
 -- Verify: each changed word is read back, then the copy for the wire is made anew, and tested
 
@@ -97,17 +106,20 @@ copy_bytes w words index (byte ∷ bytes) =
 abbrev pub wire_to : Workspace → List ℕ → Bool → Tree Acted
 wire_to w words same = if same then closes Verify w words Nothing (at Enter 0) else ends w words (Aborts Wires)
 
+abbrev pub copy_tree : ℕ → Workspace → List ℕ → Tree Acted
+copy_tree index w words = copy_bytes w words index (reply_of w)
+
+abbrev pub copy_test : Workspace → List ℕ → Tree Acted
+copy_test w words = bound (wire_tree w.sealed.answer w.first.code w.first.bytes.items w.wire.items) (wire_to w words)
+
 abbrev pub verify_copy : ℕ → Workspace → List ℕ → Tree Acted
-verify_copy index w words =
-    if index == length w.second_log.items
-    then copy_bytes w words index (reply_of w)
-    else bound (wire_tree w.sealed.answer w.first.code w.first.bytes.items w.wire.items) (wire_to w words)
+verify_copy index w words = if index == length w.second_log.items then copy_tree index w words else copy_test w words
+
+abbrev pub read_back : ℕ → Workspace → List ℕ → Tree Acted
+read_back index w words = bound (word_at words (slice_get w.second_log.items index)) (word_to w words index)
 
 abbrev pub verify_tree : ℕ → Workspace → List ℕ → Tree Acted
-verify_tree index w words =
-    if nat_lt index (length w.second_log.items)
-    then bound (word_at words (slice_get w.second_log.items index)) (word_to w words index)
-    else verify_copy index w words
+verify_tree index w words = if nat_lt index (length w.second_log.items) then read_back index w words else verify_copy index w words
 
 -- Enter, Give and Send are closed, each with its want, and Done, which wants nothing; a reply that is empty is not sent
 

@@ -150,21 +150,28 @@ twice_from g later w words ending = unless_ended (λ to. once g later w words) w
 abbrev pub twice : Given → ℕ → Acted → Tree StepResult
 twice g later x = twice_from g later x.workspace x.words x.ending
 
+abbrev pub made_twice : Given → ℕ → ℕ → Workspace → List ℕ → Tree StepResult
+made_twice g now later w words = bound (act_tree g now w words) (twice g later)
+
 abbrev pub step_as : Given → ℕ → ℕ → Workspace → List ℕ → Act → Times → Tree StepResult
 step_as g now later w words act Once = once g now w words
 step_as g now later w words act Skip = goes w words (skipped w act)
-step_as g now later w words act Twice = bound (act_tree g now w words) (twice g later)
+step_as g now later w words act Twice = made_twice g now later w words
 
-abbrev pub step_at : Given → ℕ → ℕ → Workspace → List ℕ → Option Act → Tree StepResult
-step_at g now later w words None = Ended (step_result w words (aborted w.place.phase (Table w.place.index)))
-step_at g now later w words (Some act) = Ask (Often (record { place = w.place; act = act })) (step_as g now later w words act)
+-- how often it is made is asked
+abbrev pub step_of : Act → Given → ℕ → ℕ → Workspace → List ℕ → Tree StepResult
+step_of act g now later w words = Ask (Often (record { place = w.place; act = act })) (step_as g now later w words act)
+
+abbrev pub step_at : Option Act → Given → ℕ → ℕ → Workspace → List ℕ → Tree StepResult
+step_at None g now later w words = Ended (step_result w words (aborted w.place.phase (Table w.place.index)))
+step_at (Some act) g now later w words = step_of act g now later w words
 
 -- a step: how often its act is made, the act, and the next place. The clock answers `now` to the act, and `later` where
 -- that is made once more
 abbrev pub traversal_step : Given → ℕ → ℕ → Workspace → List ℕ → Tree StepResult
 traversal_step g now later w words =
     let v : Workspace = record w { want = Nothing } in
-    step_at g now later v words (site_of g.behavior v)
+    step_at (site_of g.behavior v) g now later v words
 
 -- for one answer of the clock the work goes like this; and for two, where the clock is asked again
 pub record Timed {S R : Type 0} (gives : S → (q : Question) → Answer q → S → Type 0) (told : Option ℕ) (tree : ℕ → Tree R) (s t : S) (x : R) : Type 0 where

@@ -1,9 +1,8 @@
 //! The acts behind the last comparison: each closes its phase.
-ghost use Rattle.std.specs.Prelude.{◌≡◌, ℕ, List};
-ghost use Rattle.sei_fault.specs.Tree.{Runs};
-ghost use Rattle.sei_traverse.specs.Workspaces.{Stays};
-ghost use Rattle.sei_traverse.specs.Acts.{acted};
+ghost use Rattle.std.specs.Prelude.{◌≡◌};
 ghost use Rattle.sei_traverse.specs.Phases.{enter_tree, give_tree, send_want, send_tree, done_tree};
+ghost use Rattle.sei_traverse.specs.Work.{ActsAlone};
+ghost use Rattle.sei_traverse.specs.Workspaces.{Stays};
 
 use crate::turned::Want;
 use crate::workspace::{Ending, Workspace};
@@ -23,7 +22,7 @@ fn send_want(reply: &[u8]) -> Want
 impl Workspace {
     /// Enter.
     pub fn enter<K: Core>(&mut self, core: &mut K) -> Ending
-        ensures act { (words : List ℕ) → Runs K.gives (enter_tree self.old words) core.old core.new (acted self.new words result) }
+        ensures act { ActsAlone K.gives enter_tree self.old core.old self.new core.new result }
         ensures stays { Stays self.old self.new }
         ensures place { self.new.place ≡ self.old.place }
     {
@@ -40,7 +39,7 @@ impl Workspace {
 
     /// Give.
     pub fn give<K: Core>(&mut self, core: &mut K) -> Ending
-        ensures act { (words : List ℕ) → Runs K.gives (give_tree self.old words) core.old core.new (acted self.new words result) }
+        ensures act { ActsAlone K.gives give_tree self.old core.old self.new core.new result }
         ensures stays { Stays self.old self.new }
         ensures place { self.new.place ≡ self.old.place }
     {
@@ -57,7 +56,7 @@ impl Workspace {
 
     /// Send.
     pub fn send<K: Core>(&mut self, core: &mut K) -> Ending
-        ensures act { (words : List ℕ) → Runs K.gives (send_tree self.old words) core.old core.new (acted self.new words result) }
+        ensures act { ActsAlone K.gives send_tree self.old core.old self.new core.new result }
         ensures stays { Stays self.old self.new }
         ensures place { self.new.place ≡ self.old.place }
     {
@@ -75,7 +74,7 @@ impl Workspace {
 
     /// Done.
     pub fn finish<K: Core>(&mut self, core: &mut K) -> Ending
-        ensures act { (words : List ℕ) → Runs K.gives (done_tree self.old words) core.old core.new (acted self.new words result) }
+        ensures act { ActsAlone K.gives done_tree self.old core.old self.new core.new result }
         ensures stays { Stays self.old self.new }
         ensures place { self.new.place ≡ self.old.place }
     {

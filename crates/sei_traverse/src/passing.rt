@@ -1,13 +1,11 @@
 //! The acts of the two passes.
 ghost use Rattle.std.specs.Prelude.{◌≡◌, ◌≤◌, length};
 ghost use Rattle.sei_stmt.specs.Handling.{parsed_words};
-ghost use Rattle.sei_words.specs.LentBucket.{words_of, bucket_of, place_of, IsOf};
+ghost use Rattle.sei_words.specs.LentBucket.{place_of, IsOf};
 ghost use Rattle.sei_pass.specs.Setting.{sealed_call};
-ghost use Rattle.sei_traverse.specs.Workspaces.{Stays};
-ghost use Rattle.sei_traverse.specs.Acts.{acted};
 ghost use Rattle.sei_traverse.specs.PassActs.{first_tree, second_tree};
-ghost use Rattle.sei_traverse.specs.Given.{given_of};
-ghost use Rattle.sei_traverse.specs.Step.{Timed};
+ghost use Rattle.sei_traverse.specs.Work.{work, ActsAs};
+ghost use Rattle.sei_traverse.specs.Workspaces.{Stays};
 
 use crate::turned::Want;
 use crate::workspace::{Ending, Workspace};
@@ -29,10 +27,8 @@ impl Workspace {
     ) -> Ending
         requires room { length (parsed_words (sealed_call ((H.behavior hands.now).parsed input.now) self.old.sealed.nth)) ≤ self.old.first.input.room }
         requires lent { IsOf self.old.first.space.geometry (L.lent_bucket lent.old) }
-        ensures act { Timed K.gives (C.told clock.now)
-            (λ now. first_tree (given_of (H.behavior hands.now) input.now self.old.first.space (bucket_of (L.lent_bucket lent.old)))
-            now self.old.place.index self.old (words_of (L.lent_bucket lent.old)))
-            core.old core.new (acted self.new (words_of (L.lent_bucket lent.new)) result) }
+        ensures act { ActsAs K.gives (C.told clock.now) (H.behavior hands.now) input.now self.old.first.space (λ g now w. first_tree g now w.place.index w)
+            (work self.old (L.lent_bucket lent.old) core.old) (work self.new (L.lent_bucket lent.new) core.new) result }
         ensures lent { place_of (L.lent_bucket lent.new) ≡ place_of (L.lent_bucket lent.old) }
         ensures stays { Stays self.old self.new }
         ensures place { self.new.place ≡ self.old.place }
@@ -78,10 +74,8 @@ impl Workspace {
     ) -> Ending
         requires room { length (parsed_words (sealed_call ((H.behavior hands.now).parsed input.now) self.old.sealed.nth)) ≤ self.old.second.input.room }
         requires lent { IsOf self.old.second.space.geometry (L.lent_bucket lent.old) }
-        ensures act { Timed K.gives (C.told clock.now)
-            (λ now. second_tree (given_of (H.behavior hands.now) input.now self.old.second.space (bucket_of (L.lent_bucket lent.old)))
-            now self.old.place.index self.old (words_of (L.lent_bucket lent.old)))
-            core.old core.new (acted self.new (words_of (L.lent_bucket lent.new)) result) }
+        ensures act { ActsAs K.gives (C.told clock.now) (H.behavior hands.now) input.now self.old.second.space (λ g now w. second_tree g now w.place.index w)
+            (work self.old (L.lent_bucket lent.old) core.old) (work self.new (L.lent_bucket lent.new) core.new) result }
         ensures lent { place_of (L.lent_bucket lent.new) ≡ place_of (L.lent_bucket lent.old) }
         ensures stays { Stays self.old self.new }
         ensures place { self.new.place ≡ self.old.place }
