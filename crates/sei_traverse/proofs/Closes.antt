@@ -13,7 +13,8 @@ use Rattle.sei_traverse.specs.declared.turned.Want.TheVariants.{Nothing}
 use Rattle.sei_traverse.specs.declared.workspace.Ending.TheVariants.{Leads}
 use Rattle.sei_traverse.specs.declared.workspace.Workspace.{Workspace}
 use Rattle.sei_traverse.specs.Acts.{Acted, acted, ends, closed_to, closing_then, closes}
-use Rattle.sei_traverse.specs.PassActs.{asked_behind, first_from, second_from}
+use Rattle.sei_pass.specs.declared.given.Which.{Which}
+use Rattle.sei_traverse.specs.PassActs.{asked_behind, pass_from}
 use Rattle.sei_traverse.proofs.Branches.{same}
 
 -- the workspace behind an act that closed a phase
@@ -34,12 +35,7 @@ closes_in_step phase w words to h = closes_then phase w words (λ v. ends (recor
 
 -- behind a statement of a pass, no fewer questions are asked than is said
 
-pub first_behind : (w : Workspace) (words : List ℕ) (o : Outcome) → asked_behind o ≤ weighed (first_from w words o)
-first_behind w words (Next index) = omega arith
-first_behind w words Halted = omega arith
-first_behind w words (Bad cause) = omega arith
-
-pub second_behind : (w : Workspace) (words : List ℕ) (o : Outcome) → asked_behind o ≤ weighed (second_from w words o)
-second_behind w words (Next index) = omega arith
-second_behind w words Halted = omega arith
-second_behind w words (Bad cause) = omega arith
+pub pass_behind : (which : Which) (w : Workspace) (words : List ℕ) (o : Outcome) → asked_behind o ≤ weighed (pass_from which w words o)
+pass_behind which w words (Next index) = omega arith
+pass_behind which w words Halted = omega arith
+pass_behind which w words (Bad cause) = omega arith

@@ -43,7 +43,7 @@ use Rattle.sei_traverse.specs.declared.turned.Want.TheVariants.{Nothing}
 use Rattle.sei_traverse.specs.declared.workspace.Ending.TheVariants.{Leads, Aborts}
 use Rattle.sei_traverse.specs.declared.workspace.Workspace.{Workspace}
 use Rattle.sei_traverse.specs.Acts.{acted, at, closes}
-use Rattle.sei_traverse.specs.PassActs.{with_first, with_second, first_to, second_to}
+use Rattle.sei_traverse.specs.PassActs.{pass_phase, pass_in, log_in, machine_in, with_machine, pass_to}
 use Rattle.sei_traverse.specs.Running.{On, on, Quiet, RunsOn, rest, begun_at, left_at}
 use Rattle.sei_traverse.specs.Given.{Given, given_of, setting_in}
 use Rattle.sei_stmt.specs.Handling.{Behavior}
@@ -63,25 +63,6 @@ bound_runs gives (Ended r) f c d y h = (c, r, (refl, refl), h)
 bound_runs gives (Ask q k) f c d y (a, n, g, r) = let i = bound_runs gives (k a) f n d y r in (i.0, i.1, (a, n, g, i.2), i.3)
 
 -- The workspace of a pass.
-
-abbrev pub pass_phase : Which → Phase
-pass_phase Making = First
-pass_phase Reading = Second
-
-abbrev pub pass_in : Which → Workspace → PassState
-pass_in Making w = w.first
-pass_in Reading w = w.second
-
-abbrev pub log_in : Which → Workspace → Kept Change
-log_in Making w = w.first_log
-log_in Reading w = w.second_log
-
-abbrev pub machine_in : Which → Workspace → List ℕ → Machine
-machine_in which w words = machine_of (pass_in which w) words (log_in which w) w.notes
-
-abbrev pub with_machine : Which → Workspace → Machine → Workspace
-with_machine Making w m = with_first w m
-with_machine Reading w m = with_second w m
 
 -- its pass stands at this index with this machine
 abbrev pub workspace_at : Which → Workspace → Want → ℕ → Machine → Workspace
@@ -140,32 +121,32 @@ module _ {S : Type 0} (gives : S → (q : Question) → Answer q → S → Type 
       let from = workspace_at Making w Nothing i m in
       let end = acted (workspace_at Making w Nothing i n) n.words (Leads (at First to)) in
       runs_bound gives (act_tree g now from m.words) goes_on u d e end z
-      (runs_bound gives (step_tree (setting_in g Making w.sealed now) i m) (first_to from) u d d (at_outcome n (Next to)) end r (refl, refl)) k
+      (runs_bound gives (step_tree (setting_in g Making w.sealed now) i m) (pass_to Making from) u d d (at_outcome n (Next to)) end r (refl, refl)) k
   once_pass Making w i m n Halts u d e z r k =
       let from = workspace_at Making w Nothing i m in
       let h = bound_runs gives (closes First (workspace_at Making w Nothing i n) n.words Nothing (at Restore 0)) goes_on d e z k in
       runs_bound gives (act_tree g now from m.words) goes_on u h.0 e h.1 z
-      (runs_bound gives (step_tree (setting_in g Making w.sealed now) i m) (first_to from) u d h.0 (at_outcome n Halts) h.1 r h.2) h.3
+      (runs_bound gives (step_tree (setting_in g Making w.sealed now) i m) (pass_to Making from) u d h.0 (at_outcome n Halts) h.1 r h.2) h.3
   once_pass Making w i m n (Aborting cause) u d e z r k =
       let from = workspace_at Making w Nothing i m in
       let end = acted (workspace_at Making w Nothing i n) n.words (Aborts cause) in
       runs_bound gives (act_tree g now from m.words) goes_on u d e end z
-      (runs_bound gives (step_tree (setting_in g Making w.sealed now) i m) (first_to from) u d d (at_outcome n (Aborting cause)) end r (refl, refl)) k
+      (runs_bound gives (step_tree (setting_in g Making w.sealed now) i m) (pass_to Making from) u d d (at_outcome n (Aborting cause)) end r (refl, refl)) k
   once_pass Reading w i m n (Next to) u d e z r k =
       let from = workspace_at Reading w Nothing i m in
       let end = acted (workspace_at Reading w Nothing i n) n.words (Leads (at Second to)) in
       runs_bound gives (act_tree g now from m.words) goes_on u d e end z
-      (runs_bound gives (step_tree (setting_in g Reading w.sealed now) i m) (second_to from) u d d (at_outcome n (Next to)) end r (refl, refl)) k
+      (runs_bound gives (step_tree (setting_in g Reading w.sealed now) i m) (pass_to Reading from) u d d (at_outcome n (Next to)) end r (refl, refl)) k
   once_pass Reading w i m n Halts u d e z r k =
       let from = workspace_at Reading w Nothing i m in
       let h = bound_runs gives (closes Second (workspace_at Reading w Nothing i n) n.words Nothing (at Compare 0)) goes_on d e z k in
       runs_bound gives (act_tree g now from m.words) goes_on u h.0 e h.1 z
-      (runs_bound gives (step_tree (setting_in g Reading w.sealed now) i m) (second_to from) u d h.0 (at_outcome n Halts) h.1 r h.2) h.3
+      (runs_bound gives (step_tree (setting_in g Reading w.sealed now) i m) (pass_to Reading from) u d h.0 (at_outcome n Halts) h.1 r h.2) h.3
   once_pass Reading w i m n (Aborting cause) u d e z r k =
       let from = workspace_at Reading w Nothing i m in
       let end = acted (workspace_at Reading w Nothing i n) n.words (Aborts cause) in
       runs_bound gives (act_tree g now from m.words) goes_on u d e end z
-      (runs_bound gives (step_tree (setting_in g Reading w.sealed now) i m) (second_to from) u d d (at_outcome n (Aborting cause)) end r (refl, refl)) k
+      (runs_bound gives (step_tree (setting_in g Reading w.sealed now) i m) (pass_to Reading from) u d d (at_outcome n (Aborting cause)) end r (refl, refl)) k
 
   module _ (which : Which) (w : Workspace) where
     abbrev setting : Setting

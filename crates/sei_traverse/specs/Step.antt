@@ -24,7 +24,8 @@ use Rattle.sei_traverse.specs.declared.workspace.Ending.{Ending}
 use Rattle.sei_traverse.specs.declared.workspace.Ending.TheVariants.{Leads, Refuses, Aborts}
 use Rattle.sei_traverse.specs.declared.workspace.Workspace.{Workspace}
 use Rattle.sei_traverse.specs.Acts.{Acted, at}
-use Rattle.sei_traverse.specs.PassActs.{first_tree, second_tree}
+use Rattle.sei_pass.specs.declared.given.Which.TheVariants.{Making, Reading}
+use Rattle.sei_traverse.specs.PassActs.{pass_tree}
 use Rattle.sei_traverse.specs.Phases.{guard_tree, take_tree, restore_tree, compared, compare_tree, verify_tree, enter_tree, give_tree, send_tree, done_tree}
 use Rattle.sei_traverse.specs.Given.{Given}
 use Rattle.sei_stmt.specs.Handling.{Behavior}
@@ -34,9 +35,9 @@ use Rattle.sei_stmt.specs.Handling.{Behavior}
 abbrev pub act_in : Given → ℕ → Phase → ℕ → Workspace → List ℕ → Tree Acted
 act_in g now Guard index w words = guard_tree g w words
 act_in g now Take index w words = take_tree g index w words
-act_in g now First index w words = first_tree g now index w words
+act_in g now First index w words = pass_tree Making g now index w words
 act_in g now Restore index w words = restore_tree index w words
-act_in g now Second index w words = second_tree g now index w words
+act_in g now Second index w words = pass_tree Reading g now index w words
 act_in g now Compare index w words = compare_tree index w words
 act_in g now Verify index w words = verify_tree index w words
 act_in g now Enter index w words = enter_tree w words

@@ -1,16 +1,21 @@
 -- What an act comes to, a step, and a part of one, whatever the core answers.
-use Rattle.std.specs.Prelude.{ℕ, List, Option}
+use Rattle.std.specs.Prelude.{◌≡◌, ℕ, List, Option}
+use Rattle.sei_fault.specs.Counts.{Counts}
 use Rattle.sei_fault.specs.Question.{Question, Answer}
 use Rattle.sei_fault.specs.Tree.{Tree, Runs}
 use Rattle.sei_words.specs.LentBucket.{words_of, bucket_of}
 use Rattle.sei_words.specs.Words.{BucketWords}
-use Rattle.sei_pass.specs.declared.spaces.PassSpace.{PassSpace}
 use Rattle.sei_stmt.specs.Handling.{Behavior}
+use Rattle.sei_stmt.specs.Machine.{Outcome}
+use Rattle.sei_pass.specs.declared.given.Which.{Which}
+use Rattle.sei_pass.specs.declared.spaces.PassSpace.{PassSpace}
+use Rattle.sei_pass.specs.Steps.{Stepped}
 use Rattle.sei_traverse.specs.declared.turned.State.{State}
 use Rattle.sei_traverse.specs.declared.workspace.Ending.{Ending}
 use Rattle.sei_traverse.specs.declared.workspace.Workspace.{Workspace}
 use Rattle.sei_traverse.specs.Acts.{Acted, acted}
-use Rattle.sei_traverse.specs.Given.{Given, given_of}
+use Rattle.sei_traverse.specs.Given.{Given, given_of, setting_in}
+use Rattle.sei_traverse.specs.PassActs.{machine_in, with_machine}
 use Rattle.sei_traverse.specs.Step.{StepResult, step_result, Timed, TimedTwice}
 
 -- what is worked on: a workspace, what is lent to it, and its core
@@ -50,3 +55,10 @@ ComesTo gives told behavior input space tree x core z =
 abbrev pub TurnsAs : {S : Type 0} → (S → (q : Question) → Answer q → S → Type 0) → Option ℕ → Behavior → List ℕ → PassSpace →
     (Given → ℕ → ℕ → Workspace → List ℕ → Tree StepResult) → Work S → Work S → State → Type 0
 TurnsAs gives told behavior input space tree x y state = ComesTo gives told behavior input space tree x y.core (step_result y.workspace (words_of y.lent) state)
+
+-- the step of a pass at this place leads from x to y, and comes to this; it changes the pass, its log and the notes alone
+pub record StepsIn {S : Type 0} (gives : S → (q : Question) → Answer q → S → Type 0) (counts : S → Counts) (told : Option ℕ) (behavior : Behavior) (input : List ℕ)
+    (space : PassSpace) (which : Which) (x y : Work S) (o : Outcome) : Type 0 where
+  pub stepped : Stepped gives counts told (setting_in (given_of behavior input space (bucket_of x.lent)) which x.workspace.sealed) x.workspace.place.index
+      (machine_in which x.workspace (words_of x.lent)) (machine_in which y.workspace (words_of y.lent)) o x.core y.core
+  pub rest : with_machine which x.workspace (machine_in which y.workspace (words_of y.lent)) ≡ y.workspace

@@ -8,7 +8,7 @@ ghost use Rattle.sei_traverse.specs.Workspaces.{IsWorkspace, FitsIn, Stays};
 use crate::workspace::{Ending, Workspace};
 use sei_fault::{Core, Phase};
 use sei_outside::Clock;
-use sei_pass::{PassSpace, Slots};
+use sei_pass::{PassSpace, Slots, Which};
 use sei_stmt::Handler;
 
 impl Workspace {
@@ -38,9 +38,9 @@ impl Workspace {
         match self.place.phase {
             Phase::Guard => self.guard(hands, input, core),
             Phase::Take => self.take(hands, input, space, core),
-            Phase::First => self.first(hands, input, lent, core, clock),
+            Phase::First => self.pass(Which::Making, hands, input, space, lent, core, clock),
             Phase::Restore => self.restore(lent, core),
-            Phase::Second => self.second(hands, input, lent, core, clock),
+            Phase::Second => self.pass(Which::Reading, hands, input, space, lent, core, clock),
             Phase::Compare => self.compare(core),
             Phase::Verify => self.verify(lent, core),
             Phase::Enter => self.enter(core),
