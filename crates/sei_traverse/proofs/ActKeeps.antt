@@ -25,8 +25,8 @@ use Rattle.sei_traverse.specs.declared.turned.Want.TheVariants.{Nothing, Enter a
 use Rattle.sei_traverse.specs.declared.workspace.Ending.{Ending}
 use Rattle.sei_traverse.specs.declared.workspace.Ending.TheVariants.{Leads, Refuses, Aborts}
 use Rattle.sei_traverse.specs.declared.workspace.Workspace.{Workspace}
-use Rattle.sei_traverse.specs.Acts.{Acted, acted, ends, at, closing_then, closes}
-use Rattle.sei_traverse.specs.PassActs.{pass_phase, after_pass, machine_in, with_machine, pass_from, pass_to, pass_tree}
+use Rattle.sei_traverse.specs.Acts.{Acted, acted, ends, at, closing_then, closes, next_phase}
+use Rattle.sei_traverse.specs.PassActs.{pass_phase, machine_in, with_machine, pass_from, pass_to, pass_tree}
 use Rattle.sei_traverse.specs.Phases.{guard_call, store_wanted, take_wanted, take_tree, undone_as, undone_to, compared, entries_to, outputs_to, word_to, copy_bytes, wire_to, verify_copy, reply_of, send_want}
 use Rattle.sei_traverse.specs.Given.{Given, setting_in}
 use Rattle.sei_traverse.specs.Step.{act_in}
@@ -102,7 +102,7 @@ module _ (w u : Workspace) (s : Same w u) where
 
   from_pass : (which : Which) (words : List ℕ) (o : Outcome) → Always (Keeps w) (pass_from which u words o)
   from_pass which words (Next index) = keeps_here words (Leads (at (pass_phase which) index))
-  from_pass which words Halted = closes_keeps (pass_phase which) words Nothing (at (after_pass which) 0)
+  from_pass which words Halted = closes_keeps (pass_phase which) words Nothing (at (next_phase (pass_phase which)) 0)
   from_pass which words (Bad cause) = keeps_here words (Aborts cause)
 
 not_zero : (n : ℕ) → (suc n == 0) ≡ false

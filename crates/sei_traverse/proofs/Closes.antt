@@ -15,6 +15,7 @@ use Rattle.sei_traverse.specs.declared.workspace.Workspace.{Workspace}
 use Rattle.sei_traverse.specs.Acts.{Acted, acted, ends, closed_to, closing_then, closes}
 use Rattle.sei_pass.specs.declared.given.Which.{Which}
 use Rattle.sei_traverse.specs.PassActs.{asked_behind, pass_from}
+use Rattle.sei_traverse.specs.Phases.{closing_want, closing_place, closing_tree}
 use Rattle.sei_traverse.proofs.Branches.{same}
 
 -- the workspace behind an act that closed a phase
@@ -32,6 +33,11 @@ closes_then phase w words on h =
 
 pub closes_in_step : (phase : Phase) (w : Workspace) (words : List ℕ) (to : Place) → w.gate.done ≡ phase_number phase → honest (closes phase w words Nothing to) ≡ acted (closed w) words (Leads to)
 closes_in_step phase w words to h = closes_then phase w words (λ v. ends (record v { want = Nothing }) words (Leads to)) h
+
+-- a phase that is only closed leads on, with its want
+pub only_closes : (phase : Phase) (w : Workspace) (words : List ℕ) → w.gate.done ≡ phase_number phase →
+    honest (closing_tree phase w words) ≡ acted (record (closed_workspace w) { want = closing_want w phase }) words (Leads (closing_place phase))
+only_closes phase w words h = closes_then phase w words (λ v. ends (record v { want = closing_want w phase }) words (Leads (closing_place phase))) h
 
 -- behind a statement of a pass, no fewer questions are asked than is said
 

@@ -34,7 +34,7 @@ use Rattle.sei_traverse.specs.Given.{Given, given_of, has_sealed_call, bucket_of
 use Rattle.sei_traverse.specs.Step.{act_in, site_in, plain_below}
 use Rattle.sei_traverse.specs.Unstruck.{take_want, NextIn, IsOf, FirstIsNew, SecondIsNew, SecondIsDone, InGuard, InTake, WantedAt, FirstWaits, FirstRuns, InBoth, InEnter, InGive, HasOutput, InSend, InDone, IsFinished}
 use Rattle.sei_traverse.proofs.Branches.{below}
-use Rattle.sei_traverse.proofs.Closes.{closed_workspace, closes_then}
+use Rattle.sei_traverse.proofs.Closes.{closed_workspace, closes_then, only_closes}
 use Rattle.sei_traverse.proofs.GoesOn.{GoesOn}
 use Rattle.sei_traverse.proofs.TimeLaws.{comes_start}
 
@@ -254,7 +254,7 @@ module _ (e : CallContext) (now : ℕ) (w : Workspace) (words : List ℕ) (steps
     left = words;
     to = at Give 0;
     next = tt;
-    acts = closes_then Enter w words (λ v. ends (record v { want = WantEnter }) words (Leads (at Give 0))) i.is.gate;
+    acts = only_closes Enter w words i.is.gate;
     want = refl;
     more = 0;
     asks = omega arith;
@@ -279,7 +279,7 @@ module _ (e : CallContext) (now : ℕ) (w : Workspace) (words : List ℕ) (steps
     left = words;
     to = at Send 0;
     next = refl;
-    acts = closes_then Give w words (λ v. ends (record v { want = WantGive }) words (Leads (at Send 0))) i.is.gate;
+    acts = only_closes Give w words i.is.gate;
     want = refl;
     more = 0;
     asks = omega arith;
@@ -312,7 +312,7 @@ module _ (e : CallContext) (now : ℕ) (w : Workspace) (words : List ℕ) (steps
         left = words;
         to = at Done 0;
         next = refl;
-        acts = closes_then Send w words (λ v. ends (record v { want = want }) words (Leads (at Done 0))) i.is.gate;
+        acts = only_closes Send w words i.is.gate;
         want = refl;
         more = 0;
         asks = omega arith;
@@ -345,7 +345,7 @@ done_on e now bucket w words steps asked i = record {
   site = plain_first w.place.index i.index;
   workspace = record (closed_workspace w) { want = Nothing };
   left = words;
-  acts = closes_then Done w words (λ v. ends (record v { want = Nothing }) words (Leads (at Done 1))) i.is.gate;
+  acts = only_closes Done w words i.is.gate;
   want = refl;
   finished = record {
     place = refl;

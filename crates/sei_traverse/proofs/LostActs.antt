@@ -23,8 +23,8 @@ use Rattle.sei_traverse.specs.declared.turned.Want.TheVariants.{Nothing, Enter a
 use Rattle.sei_traverse.specs.declared.workspace.Ending.{Ending}
 use Rattle.sei_traverse.specs.declared.workspace.Ending.TheVariants.{Leads, Refuses, Aborts}
 use Rattle.sei_traverse.specs.declared.workspace.Workspace.{Workspace}
-use Rattle.sei_traverse.specs.Acts.{Acted, acted, ends, at, closed_to, closing_then, closes}
-use Rattle.sei_traverse.specs.PassActs.{pass_phase, after_pass, machine_in, with_machine, pass_from, pass_to, pass_tree}
+use Rattle.sei_traverse.specs.Acts.{Acted, acted, ends, at, closed_to, closing_then, closes, next_phase}
+use Rattle.sei_traverse.specs.PassActs.{pass_phase, machine_in, with_machine, pass_from, pass_to, pass_tree}
 use Rattle.sei_traverse.specs.Phases.{guard_call, take_wanted, store_wanted, undone_as, undone_to, compared, entries_to, outputs_to, word_to, copy_bytes, wire_to, verify_copy, send_want, reply_of}
 use Rattle.sei_traverse.specs.Given.{Given, has_sealed_call, setting_in}
 use Rattle.sei_traverse.specs.Step.{act_in}
@@ -84,7 +84,7 @@ module _ (g : Given) (now : ℕ) (w : Workspace) (words : List ℕ) where
 
 pass_ends : (which : Which) (w v : Workspace) → IsAlike w v → (words : List ℕ) (o : Outcome) → w.gate.done ≢ phase_number (pass_phase which) → StaysLost (pass_phase which) w (honest (pass_from which v words o))
 pass_ends which w v alike words (Next index) lost = lost_leads (pass_phase which) w v alike words index
-pass_ends which w v alike words Halted lost = lost_closing (pass_phase which) w v alike words (λ v. ends (record v { want = Nothing }) words (Leads (at (after_pass which) 0))) lost
+pass_ends which w v alike words Halted lost = lost_closing (pass_phase which) w v alike words (λ v. ends (record v { want = Nothing }) words (Leads (at (next_phase (pass_phase which)) 0))) lost
 pass_ends which w v alike words (Bad cause) lost = lost_aborts (pass_phase which) w v alike words cause
 
 alike_pass : (which : Which) (w : Workspace) (m : Machine) → IsAlike w (with_machine which w m)

@@ -36,8 +36,8 @@ use Rattle.sei_traverse.specs.declared.turned.Want.TheVariants.{Nothing, Take as
 use Rattle.sei_traverse.specs.declared.workspace.Ending.{Ending}
 use Rattle.sei_traverse.specs.declared.workspace.Ending.TheVariants.{Leads, Refuses, Aborts}
 use Rattle.sei_traverse.specs.declared.workspace.Workspace.{Workspace}
-use Rattle.sei_traverse.specs.Acts.{Acted, ends, at, closed_to, closing_then, closes}
-use Rattle.sei_traverse.specs.PassActs.{pass_of, pass_phase, after_pass, machine_in, with_machine, pass_from, pass_to, pass_tree}
+use Rattle.sei_traverse.specs.Acts.{Acted, ends, at, closed_to, closing_then, closes, next_phase}
+use Rattle.sei_traverse.specs.PassActs.{pass_of, pass_phase, machine_in, with_machine, pass_from, pass_to, pass_tree}
 use Rattle.sei_traverse.specs.Phases.{guard_call, store_wanted, take_wanted, undone_as, undone_to, compared, entries_to, outputs_to, word_to, reply_of, copy_bytes, wire_to, verify_copy, send_want}
 use Rattle.sei_traverse.specs.Given.{Given, setting_in}
 use Rattle.sei_traverse.specs.Step.{StepResult, act_in, act_tree, site_of, skipped, goes, goes_on, once, unless_ended, twice, step_as, step_at, traversal_step}
@@ -238,7 +238,7 @@ module _ (k : PassSpace) (parsed : ℕ → Option Parsed) where
 
     pass_onward : (which : Which) (v : Workspace) (words : List ℕ) (o : Outcome) → KeepsWorkspace k parsed w before v words → Always KeptBy (pass_from which v words o)
     pass_onward which v words (Next i) h = h
-    pass_onward which v words Halted h = kept_closes (pass_phase which) v words Nothing (at (after_pass which) 0) h
+    pass_onward which v words Halted h = kept_closes (pass_phase which) v words Nothing (at (next_phase (pass_phase which)) 0) h
     pass_onward which v words (Bad cause) h = h
 
     kept_pass : (which : Which) (g : Given) (now index : ℕ) (words : List ℕ) → g.space ≡ k → g.behavior.parsed g.input ≡ parsed → length words ≡ length before → Always KeptBy (pass_tree which g now index w words)

@@ -9,10 +9,10 @@ use Rattle.sei_pass.proofs.Public.{some_answer}
 use Rattle.sei_traverse.specs.declared.turned.Want.TheVariants.{Nothing}
 use Rattle.sei_traverse.specs.declared.workspace.Ending.{Ending}
 use Rattle.sei_traverse.specs.declared.workspace.Workspace.{Workspace}
-use Rattle.sei_traverse.specs.Acts.{acted, at, closes}
+use Rattle.sei_traverse.specs.Acts.{acted, at, closes, next_phase}
 use Rattle.sei_traverse.specs.Running.{rest}
 use Rattle.sei_traverse.specs.Given.{Given}
-use Rattle.sei_traverse.specs.Step.{StepResult, next_phase, goes_from, goes_on, TimedTwice}
+use Rattle.sei_traverse.specs.Step.{StepResult, goes_from, goes_on, TimedTwice}
 
 module _ {S : Type 0} (gives : S → (q : Question) → Answer q → S → Type 0) (w : Workspace) (words : List ℕ) where
   -- the phase is closed, and the step goes on to the next one

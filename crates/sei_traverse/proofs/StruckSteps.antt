@@ -24,7 +24,7 @@ use Rattle.sei_traverse.specs.declared.turned.State.TheVariants.{Went, Refused}
 use Rattle.sei_traverse.specs.declared.turned.Want.TheVariants.{Nothing}
 use Rattle.sei_traverse.specs.declared.workspace.Ending.TheVariants.{Leads, Refuses}
 use Rattle.sei_traverse.specs.declared.workspace.Workspace.{Workspace}
-use Rattle.sei_traverse.specs.Acts.{Acted, acted, at}
+use Rattle.sei_traverse.specs.Acts.{Acted, acted, at, next_phase}
 use Rattle.sei_traverse.specs.CallContext.{CallContext, Follows}
 use Rattle.sei_traverse.specs.FaultInvariant.{Knows, StruckCase, Wanted, IsUnfitInput}
 use Rattle.sei_traverse.proofs.ClosesNext.{ClosesNext}
@@ -32,7 +32,7 @@ use Rattle.sei_traverse.specs.FaultInvariant.StruckCase.{Right, Lost}
 use Rattle.sei_traverse.proofs.ClosesNext.ClosesNext.{Closes}
 use Rattle.sei_traverse.specs.OnWay.{lent_words, LendsIn}
 use Rattle.sei_traverse.specs.Given.{Given, has_sealed_call}
-use Rattle.sei_traverse.specs.Step.{StepResult, step_result, aborted, arrival, act_in, act_tree, is_last, next_phase, site_of, skipped, goes, goes_on, once, twice, step_as, step_at}
+use Rattle.sei_traverse.specs.Step.{StepResult, step_result, aborted, arrival, act_in, act_tree, is_last, site_of, skipped, goes, goes_on, once, twice, step_as, step_at}
 use Rattle.sei_traverse.specs.Struck.{HasCopyOfSome, StruckIn}
 use Rattle.sei_traverse.specs.Trusted.{PassesGuard, IsTrusted}
 use Rattle.sei_traverse.specs.Unstruck.{NextIn, CleanIn}

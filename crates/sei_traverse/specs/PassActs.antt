@@ -2,7 +2,7 @@
 use Rattle.std.specs.Prelude.{ℕ, List}
 use Rattle.sei_code.specs.Kept.{Kept}
 use Rattle.sei_fault.specs.declared.place.Phase.{Phase}
-use Rattle.sei_fault.specs.declared.place.Phase.TheVariants.{First, Restore, Second, Compare}
+use Rattle.sei_fault.specs.declared.place.Phase.TheVariants.{First, Second}
 use Rattle.sei_fault.specs.Tree.{Tree, bound}
 use Rattle.sei_log.specs.declared.log.Change.{Change}
 use Rattle.sei_stmt.specs.Machine.{Machine, Outcome, After}
@@ -15,18 +15,13 @@ use Rattle.sei_pass.specs.Steps.{machine_of}
 use Rattle.sei_traverse.specs.declared.turned.Want.TheVariants.{Nothing}
 use Rattle.sei_traverse.specs.declared.workspace.Ending.TheVariants.{Leads, Aborts}
 use Rattle.sei_traverse.specs.declared.workspace.Workspace.{Workspace}
-use Rattle.sei_traverse.specs.Acts.{Acted, ends, at, closes}
+use Rattle.sei_traverse.specs.Acts.{Acted, ends, at, next_phase, closes}
 use Rattle.sei_traverse.specs.Given.{Given, setting_in}
 
--- the phase of a pass, and the one after it
-
+-- the phase of a pass
 abbrev pub pass_phase : Which → Phase
 pass_phase Making = First
 pass_phase Reading = Second
-
-abbrev pub after_pass : Which → Phase
-after_pass Making = Restore
-after_pass Reading = Compare
 
 -- a pass and its log
 
@@ -58,7 +53,7 @@ asked_behind (Bad cause) = 0
 -- a statement leads to the next one, and Halt closes the phase
 abbrev pub pass_from : Which → Workspace → List ℕ → Outcome → Tree Acted
 pass_from which w words (Next index) = ends w words (Leads (at (pass_phase which) index))
-pass_from which w words Halted = closes (pass_phase which) w words Nothing (at (after_pass which) 0)
+pass_from which w words Halted = closes (pass_phase which) w words Nothing (at (next_phase (pass_phase which)) 0)
 pass_from which w words (Bad cause) = ends w words (Aborts cause)
 
 abbrev pub pass_to : Which → Workspace → After → Tree Acted

@@ -6,7 +6,9 @@ use Rattle.sei_code.specs.Kept.{emptied}
 use Rattle.mc_model.specs.declared.geometry.Geometry.{Geometry}
 use Rattle.sei_fault.specs.declared.cause.AbortCause.{AbortCause}
 use Rattle.sei_fault.specs.declared.cause.AbortCause.TheVariants.{Range, Differs, Reply as Replies, Wire as Wires}
+use Rattle.sei_fault.specs.declared.place.Phase.{Phase}
 use Rattle.sei_fault.specs.declared.place.Phase.TheVariants.{Guard, Take, First, Restore, Second, Compare, Verify, Enter, Give, Send, Done}
+use Rattle.sei_fault.specs.declared.place.Place.{Place}
 use Rattle.sei_fault.specs.Question.Question.{Value, Written, Test}
 use Rattle.sei_fault.specs.Tree.{Tree, bound}
 use Rattle.sei_fault.specs.Tree.Tree.{Ask}
@@ -18,7 +20,7 @@ use Rattle.sei_traverse.specs.declared.turned.Want.{Want}
 use Rattle.sei_traverse.specs.declared.turned.Want.TheVariants.{Nothing, Take as WantTake, Enter as WantEnter, Give as WantGive, Send as WantSend}
 use Rattle.sei_traverse.specs.declared.workspace.Ending.TheVariants.{Leads, Refuses, Aborts}
 use Rattle.sei_traverse.specs.declared.workspace.Workspace.{Workspace}
-use Rattle.sei_traverse.specs.Acts.{Acted, ends, at, closing_then, closes}
+use Rattle.sei_traverse.specs.Acts.{Acted, ends, at, next_phase, closing_then, closes}
 use Rattle.sei_traverse.specs.Given.{Given, has_sealed_call, bucket_of_call}
 
 -- Guard: the input is the sealed one, and one whole request with the sealed call; otherwise it is refused
@@ -121,20 +123,25 @@ read_back index w words = bound (word_at words (slice_get w.second_log.items ind
 abbrev pub verify_tree : ℕ → Workspace → List ℕ → Tree Acted
 verify_tree index w words = if nat_lt index (length w.second_log.items) then read_back index w words else verify_copy index w words
 
--- Enter, Give and Send are closed, each with its want, and Done, which wants nothing; a reply that is empty is not sent
+-- Enter, Give, Send and Done are only closed, each with its want
 
+-- a reply that is empty is not sent
 abbrev pub send_want : List ℕ → Want
 send_want [] = Nothing
 send_want (byte ∷ bytes) = WantSend
 
-abbrev pub enter_tree : Workspace → List ℕ → Tree Acted
-enter_tree w words = closes Enter w words WantEnter (at Give 0)
+-- what is wanted where a phase is closed
+abbrev pub closing_want : Workspace → Phase → Want
+closing_want w Take = WantTake w.wanted
+closing_want w Enter = WantEnter
+closing_want w Give = WantGive
+closing_want w Send = send_want (reply_of w)
+closing_want w phase = Nothing
 
-abbrev pub give_tree : Workspace → List ℕ → Tree Acted
-give_tree w words = closes Give w words WantGive (at Send 0)
+-- where that leads: to the next phase, and from Done to the end
+abbrev pub closing_place : Phase → Place
+closing_place Done = at Done 1
+closing_place phase = at (next_phase phase) 0
 
-abbrev pub send_tree : Workspace → List ℕ → Tree Acted
-send_tree w words = closes Send w words (send_want (reply_of w)) (at Done 0)
-
-abbrev pub done_tree : Workspace → List ℕ → Tree Acted
-done_tree w words = closes Done w words Nothing (at Done 1)
+abbrev pub closing_tree : Phase → Workspace → List ℕ → Tree Acted
+closing_tree phase w words = closes phase w words (closing_want w phase) (closing_place phase)

@@ -16,12 +16,12 @@ use Rattle.sei_traverse.specs.declared.turned.State.TheVariants.{Went}
 use Rattle.sei_traverse.specs.declared.turned.Turned.{Turned}
 use Rattle.sei_traverse.specs.declared.turned.Want.TheVariants.{Nothing}
 use Rattle.sei_traverse.specs.declared.workspace.Workspace.{Workspace}
-use Rattle.sei_traverse.specs.Acts.{at, closes}
+use Rattle.sei_traverse.specs.Acts.{at, closes, next_phase}
 use Rattle.sei_traverse.specs.Noting.{NotesTime}
 use Rattle.sei_traverse.specs.Given.{Given}
 use Rattle.sei_stmt.specs.Handling.{Behavior}
 use Rattle.sei_traverse.specs.State.{TraversalState, IsTraversal, one_more, is_running}
-use Rattle.sei_traverse.specs.Step.{StepResult, step_result, aborted, next_phase, arrival, goes_on, step_as, traversal_step}
+use Rattle.sei_traverse.specs.Step.{StepResult, step_result, aborted, arrival, goes_on, step_as, traversal_step}
 use Rattle.sei_traverse.specs.Work.{Work, work, ComesTo, TurnsAs}
 
 -- a traversal, what is lent to it, and its core

@@ -23,10 +23,10 @@ use Rattle.sei_traverse.specs.declared.turned.Want.TheVariants.{Nothing}
 use Rattle.sei_traverse.specs.declared.workspace.Ending.{Ending}
 use Rattle.sei_traverse.specs.declared.workspace.Ending.TheVariants.{Leads, Refuses, Aborts}
 use Rattle.sei_traverse.specs.declared.workspace.Workspace.{Workspace}
-use Rattle.sei_traverse.specs.Acts.{Acted, at}
+use Rattle.sei_traverse.specs.Acts.{Acted, at, next_phase}
 use Rattle.sei_pass.specs.declared.given.Which.TheVariants.{Making, Reading}
 use Rattle.sei_traverse.specs.PassActs.{pass_tree}
-use Rattle.sei_traverse.specs.Phases.{guard_tree, take_tree, restore_tree, compared, compare_tree, verify_tree, enter_tree, give_tree, send_tree, done_tree}
+use Rattle.sei_traverse.specs.Phases.{guard_tree, take_tree, restore_tree, compared, compare_tree, verify_tree, closing_tree}
 use Rattle.sei_traverse.specs.Given.{Given}
 use Rattle.sei_stmt.specs.Handling.{Behavior}
 
@@ -40,10 +40,10 @@ act_in g now Restore index w words = restore_tree index w words
 act_in g now Second index w words = pass_tree Reading g now index w words
 act_in g now Compare index w words = compare_tree index w words
 act_in g now Verify index w words = verify_tree index w words
-act_in g now Enter index w words = enter_tree w words
-act_in g now Give index w words = give_tree w words
-act_in g now Send index w words = send_tree w words
-act_in g now Done index w words = done_tree w words
+act_in g now Enter index w words = closing_tree Enter w words
+act_in g now Give index w words = closing_tree Give w words
+act_in g now Send index w words = closing_tree Send w words
+act_in g now Done index w words = closing_tree Done w words
 
 abbrev pub act_tree : Given → ℕ → Workspace → List ℕ → Tree Acted
 act_tree g now w words = act_in g now w.place.phase w.place.index w words
@@ -71,19 +71,6 @@ site_of s w = site_in s w w.place.phase w.place.index
 
 -- where a step goes whose act was left out: to the next index, or behind a phase's last step to the next phase;
 -- in the passes the last step is a Halt
-
-abbrev pub next_phase : Phase → Phase
-next_phase Guard = Take
-next_phase Take = First
-next_phase First = Restore
-next_phase Restore = Second
-next_phase Second = Compare
-next_phase Compare = Verify
-next_phase Verify = Enter
-next_phase Enter = Give
-next_phase Give = Send
-next_phase Send = Done
-next_phase Done = Done
 
 abbrev pub is_halt : Act → Bool
 is_halt Halt = true

@@ -43,10 +43,10 @@ impl Workspace {
             Phase::Second => self.pass(Which::Reading, hands, input, space, lent, core, clock),
             Phase::Compare => self.compare(core),
             Phase::Verify => self.verify(lent, core),
-            Phase::Enter => self.enter(core),
-            Phase::Give => self.give(core),
-            Phase::Send => self.send(core),
-            Phase::Done => self.finish(core),
+            Phase::Enter => self.close_only(Phase::Enter, core),
+            Phase::Give => self.close_only(Phase::Give, core),
+            Phase::Send => self.close_only(Phase::Send, core),
+            Phase::Done => self.close_only(Phase::Done, core),
         }
     }
 }

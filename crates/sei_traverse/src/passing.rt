@@ -2,10 +2,11 @@
 ghost use Rattle.std.specs.Prelude.{◌≡◌};
 ghost use Rattle.sei_words.specs.LentBucket.{place_of, IsOf};
 ghost use Rattle.sei_pass.specs.Frames.{outcome_of};
-ghost use Rattle.sei_traverse.specs.PassActs.{pass_phase, after_pass, passing};
+ghost use Rattle.sei_traverse.specs.PassActs.{pass_phase, passing};
 ghost use Rattle.sei_traverse.specs.Work.{work, ActsAs, StepsIn};
 ghost use Rattle.sei_traverse.specs.Workspaces.{IsWorkspace, FitsIn, Stays};
 
+use crate::stepping::next_phase;
 use crate::turned::Want;
 use crate::workspace::{Ending, Workspace};
 use sei_fault::{Core, Phase, Place};
@@ -20,16 +21,6 @@ fn pass_phase(which: Which) -> Phase
     match which {
         Which::Making => Phase::First,
         Which::Reading => Phase::Second,
-    }
-}
-
-/// The phase after that of a pass.
-fn after_pass(which: Which) -> Phase
-    ensures { result ≡ after_pass which }
-{
-    match which {
-        Which::Making => Phase::Restore,
-        Which::Reading => Phase::Compare,
     }
 }
 
@@ -111,7 +102,7 @@ impl Workspace {
             PassStep::Next { index } => Ending::Leads(Place { phase, index }),
             PassStep::Halted => {
                 let to = Place {
-                    phase: after_pass(which),
+                    phase: next_phase(phase),
                     index: 0,
                 };
                 self.close(phase, Want::Nothing, to, core)

@@ -2,7 +2,8 @@
 ghost use Rattle.std.specs.Prelude.{◌≡◌, ℕ, ◌+◌, ◌<◌, ◌^◌, IfSome, List};
 ghost use Rattle.sei_fault.specs.Tree.{Runs};
 ghost use Rattle.sei_words.specs.LentBucket.{place_of, IsOf};
-ghost use Rattle.sei_traverse.specs.Step.{site_of, next_phase, is_halt, is_last, skipped, step_result, arrival, is_end, plain_below, goes, goes_from};
+ghost use Rattle.sei_traverse.specs.Acts.{next_phase};
+ghost use Rattle.sei_traverse.specs.Step.{site_of, is_halt, is_last, skipped, step_result, arrival, is_end, plain_below, goes, goes_from};
 ghost use Rattle.sei_traverse.specs.Step.{once, made_twice, step_of, traversal_step};
 ghost use Rattle.sei_traverse.specs.Work.{work, GoesAs, TurnsAs};
 ghost use Rattle.sei_traverse.specs.Workspaces.{IsWorkspace, FitsIn, Stays};

@@ -20,7 +20,7 @@ returns-in-Halted-clause-act g c =
     let left = g.L.Lent.lent_bucket c.pass_step.new.lent in
     pass_runs g.K.Core.gives g.K.Core.counts (g.C.Clock.told c.args.clock.now) (g.H.Handler.behavior c.args.hands.now) c.args.input.now c.args.space.now c.args.which
     (work c.args.self.now (g.L.Lent.lent_bucket c.args.lent.now) c.args.core.now) (work c.pass_step.new.self left c.pass_step.new.core) Halted c.close.new.core _
-    c.in-Halted.ensures.steps (rw c.pass_phase-phase.ensures at (rw c.after_pass.ensures at (c.close.ensures.act (words_of left))))
+    c.in-Halted.ensures.steps (rw c.pass_phase-phase.ensures at (rw c.next_phase.ensures at (c.close.ensures.act (words_of left))))
 
 pub returns-in-Bad-clause-act : goal.returns-in-Bad-clause-act
 returns-in-Bad-clause-act g c =
