@@ -22,7 +22,7 @@ use Rattle.sei_traverse.specs.Bounds.{most_steps, StepsWithin, StepsAfter}
 use Rattle.sei_traverse.specs.Given.{given_of}
 use Rattle.sei_traverse.specs.State.{IsTraversal, begun_workspace, one_more}
 use Rattle.sei_traverse.specs.Step.{StepResult, traversal_step}
-use Rattle.sei_traverse.specs.Workspaces.{IsWorkspace}
+use Rattle.sei_traverse.specs.Workspaces.{IsWorkspace, FitsIn}
 use Rattle.sei_traverse.proofs.Public.{invariant_begin, steps_bounded, begun_within}
 use Rattle.sei_hand.specs.Requests.{parsed_of, parsed_call}
 use Rattle.sei_hand.proofs.PublicHands.{length_input_words}
@@ -36,7 +36,6 @@ use Rattle.sei_main.proofs.HandsTrusted.{IsSealedCall}
 use Rattle.sei_main.proofs.ScriptedRuns.{one_falls, unplanned, unplanned_stays}
 use Rattle.sei_main.proofs.TableLaws.{IsGood}
 use Rattle.sei_main.proofs.Turns.{ended_stays}
-use Rattle.sei_traverse.proofs.PublicWorkspaceKept.{FitsIn}
 
 one_more_is : (n : ℕ) → suc n < 2 ^ 64 → one_more n ≡ suc n
 one_more_is n small = omega (arith, small)

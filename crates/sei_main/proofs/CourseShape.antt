@@ -28,9 +28,9 @@ use Rattle.sei_traverse.specs.declared.turned.Want.{Want}
 use Rattle.sei_traverse.specs.declared.turned.Want.TheVariants.{Nothing, Take as WantTake, Enter as WantEnter, Give as WantGive, Send as WantSend}
 use Rattle.sei_traverse.specs.declared.workspace.Workspace.{Workspace}
 use Rattle.sei_traverse.specs.CallContext.{CallContext}
-use Rattle.sei_traverse.specs.FaultInvariant.{FaultInvariant, FaultInvariantAfter, IsRight, LendsWanted, LendsOn, Wanted, WantsBucket, ClosesOnce, closing_want, IsAborted, Isolates}
+use Rattle.sei_traverse.specs.FaultInvariant.{FaultInvariant, FaultInvariantAfter, IsRight, LendsWanted, LendsOn, Wanted, WantsBucket, ClosesOnce, IsAborted, Isolates}
 use Rattle.sei_traverse.specs.FaultInvariant.ClosesOnce.{Stays, Closes, Lacks}
-use Rattle.sei_traverse.specs.Phases.{reply_of, send_want}
+use Rattle.sei_traverse.specs.Phases.{reply_of, send_want, closing_want}
 use Rattle.sei_traverse.specs.State.{TraversalState, one_more}
 use Rattle.sei_traverse.specs.Step.{StepResult}
 use Rattle.sei_traverse.specs.Struck.{IsHonestResult, HasCopyOfSome}

@@ -78,7 +78,7 @@ module _ (g : Geometry) (text : List ℕ) (now : ℕ) (w : Workspace) (lent_buck
   -- the number of steps stays bounded
   pub stays_within : (begin : Counts) (steps : ℕ) → IsTraversal (traversal g w steps) → StepsWithin (traversal g w steps) begin (script_counts core) →
       StepsAfter (traversal g course_step.0.workspace (one_more steps)) begin (script_counts course_step.1) course_step.0.state
-  stays_within begin steps is within = step_within gives script_counts script_lawful (Some now) (hands_behavior g) text (before steps) (after steps) course_step.0.state (steps_to steps) begin is within
+  stays_within begin steps is within = step_within gives script_counts script_lawful (Some now) (hands_behavior g) text (before steps) (after steps) course_step.0.state (steps_to steps) is begin within
 
   -- one strike is isolated
   pub isolates : (e : CallContext) (steps : ℕ) → IsTrusted e → e.behavior ≡ hands_behavior g → e.input ≡ text → e.clock ≡ Some now → LendsWanted w lent_bucket → FaultInvariant e (traversal g w steps) (lent_words lent_bucket) none_asked (script_counts core) →

@@ -12,9 +12,10 @@ use Rattle.sei_fault.specs.Tree.{Tree, Always, bound, honest}
 use Rattle.sei_fault.specs.Tree.Tree.{Done as Ended, Ask}
 use Rattle.sei_fault.proofs.Public.{always_honest}
 use Rattle.sei_gate.specs.Closing.{risen}
-use Rattle.sei_stmt.specs.Machine.{Outcome}
+use Rattle.sei_stmt.specs.Machine.{Machine, Outcome}
 use Rattle.sei_stmt.specs.Machine.Outcome.{Next, Halted, Bad}
 use Rattle.sei_stmt.specs.Statements.{step_tree}
+use Rattle.sei_pass.specs.declared.given.Which.{Which}
 use Rattle.sei_pass.specs.declared.given.Which.TheVariants.{Making, Reading}
 use Rattle.sei_restore.specs.Undoing.{undo_at}
 use Rattle.sei_compare.specs.Comparing.{entry_tree, codes_tree, word_at, wire_tree}
@@ -24,8 +25,8 @@ use Rattle.sei_traverse.specs.declared.turned.Want.TheVariants.{Nothing, Enter a
 use Rattle.sei_traverse.specs.declared.workspace.Ending.{Ending}
 use Rattle.sei_traverse.specs.declared.workspace.Ending.TheVariants.{Leads, Refuses, Aborts}
 use Rattle.sei_traverse.specs.declared.workspace.Workspace.{Workspace}
-use Rattle.sei_traverse.specs.Acts.{Acted, acted, ends, at, closing_then, closes}
-use Rattle.sei_traverse.specs.PassActs.{first_machine, second_machine, with_first, with_second, first_from, first_to, second_from, second_to}
+use Rattle.sei_traverse.specs.Acts.{Acted, acted, ends, at, closing_then, closes, next_phase}
+use Rattle.sei_traverse.specs.PassActs.{pass_phase, machine_in, with_machine, pass_from, pass_to, pass_tree}
 use Rattle.sei_traverse.specs.Phases.{guard_call, store_wanted, take_wanted, take_tree, undone_as, undone_to, compared, entries_to, outputs_to, word_to, copy_bytes, wire_to, verify_copy, reply_of, send_want}
 use Rattle.sei_traverse.specs.Given.{Given, setting_in}
 use Rattle.sei_traverse.specs.Step.{act_in}
@@ -99,15 +100,10 @@ module _ (w u : Workspace) (s : Same w u) where
       (keeps_at (record (gated u (risen u.gate.done)) { want = want }) words (Leads to) refl refl refl (inr refl))
       (keeps_at (gated u u.gate.done) words (Aborts (Gate u.gate.done)) refl refl refl (inl refl))
 
-  from_first : (words : List ℕ) (o : Outcome) → Always (Keeps w) (first_from u words o)
-  from_first words (Next index) = keeps_here words (Leads (at First index))
-  from_first words Halted = closes_keeps First words Nothing (at Restore 0)
-  from_first words (Bad cause) = keeps_here words (Aborts cause)
-
-  from_second : (words : List ℕ) (o : Outcome) → Always (Keeps w) (second_from u words o)
-  from_second words (Next index) = keeps_here words (Leads (at Second index))
-  from_second words Halted = closes_keeps Second words Nothing (at Compare 0)
-  from_second words (Bad cause) = keeps_here words (Aborts cause)
+  from_pass : (which : Which) (words : List ℕ) (o : Outcome) → Always (Keeps w) (pass_from which u words o)
+  from_pass which words (Next index) = keeps_here words (Leads (at (pass_phase which) index))
+  from_pass which words Halted = closes_keeps (pass_phase which) words Nothing (at (next_phase (pass_phase which)) 0)
+  from_pass which words (Bad cause) = keeps_here words (Aborts cause)
 
 not_zero : (n : ℕ) → (suc n == 0) ≡ false
 not_zero n = other (suc n) 0 (λ h. omega (arith, h))
@@ -148,19 +144,25 @@ module _ (g : Given) (now : ℕ) (w : Workspace) (words : List ℕ) where
   copy_keeps index [] = record { sealed = refl; place = refl; wanted = refl; gate = inl refl }
   copy_keeps index (byte ∷ bytes) = λ b. record { sealed = refl; place = refl; wanted = refl; gate = inl refl }
 
+  same_pass : (which : Which) (m : Machine) → Same w (with_machine which w m)
+  same_pass Making m = record { sealed = refl; place = refl; wanted = refl; gate = refl }
+  same_pass Reading m = record { sealed = refl; place = refl; wanted = refl; gate = refl }
+
+  pass_keeps : (which : Which) (index : ℕ) → Always (Keeps w) (pass_tree which g now index w words)
+  pass_keeps which index = always_bound (Keeps w) (step_tree (setting_in g which w.sealed now) index (machine_in which w words)) (pass_to which w)
+      (λ x. from_pass w (with_machine which w x.machine) (same_pass which x.machine) which x.machine.words x.outcome)
+
   pub keeps : (phase : Phase) (index : ℕ) → IsNoStore phase index → Always (Keeps w) (act_in g now phase index w words)
   keeps Guard index n = guard_keeps
   keeps Take zero n = absurd n
   keeps Take (suc index) n =
       subst (λ (b : Bool). Always (Keeps w) (if b then store_wanted g w words else closing_then Take w words (take_wanted g.space.geometry words))) (sym (not_zero index)) take_keeps
-  keeps First index n = always_bound (Keeps w) (step_tree (setting_in g Making w.sealed now) index (first_machine w words)) (first_to w)
-      (λ x. from_first w (with_first w x.machine) (record { sealed = refl; place = refl; wanted = refl; gate = refl }) x.machine.words x.outcome)
+  keeps First index n = pass_keeps Making index
   keeps Restore index n =
       if_always (Keeps w) (nat_lt index (length w.first_log.items)) (bound (undo_at words (slice_get w.first_log.items (length w.first_log.items - 1 - index))) (undone_to w index)) (closes Restore w words Nothing (at Second 0))
       (always_bound (Keeps w) (undo_at words (slice_get w.first_log.items (length w.first_log.items - 1 - index))) (undone_to w index) (λ u. undone_keeps u.words index u.cause))
       (closes_here Restore Nothing (at Second 0))
-  keeps Second index n = always_bound (Keeps w) (step_tree (setting_in g Reading w.sealed now) index (second_machine w words)) (second_to w)
-      (λ x. from_second w (with_second w x.machine) (record { sealed = refl; place = refl; wanted = refl; gate = refl }) x.machine.words x.outcome)
+  keeps Second index n = pass_keeps Reading index
   keeps Compare index n =
       if_always (Keeps w) (nat_lt index (compared w)) (bound (entry_tree w.first_log.items w.second_log.items index) (entries_to w words index))
       (bound (codes_tree w.first.code w.first.bytes.items w.second.code w.second.bytes.items) (outputs_to w words))

@@ -13,7 +13,9 @@ use Rattle.sei_traverse.specs.declared.turned.Want.TheVariants.{Nothing}
 use Rattle.sei_traverse.specs.declared.workspace.Ending.TheVariants.{Leads}
 use Rattle.sei_traverse.specs.declared.workspace.Workspace.{Workspace}
 use Rattle.sei_traverse.specs.Acts.{Acted, acted, ends, closed_to, closing_then, closes}
-use Rattle.sei_traverse.specs.PassActs.{asked_behind, first_from, second_from}
+use Rattle.sei_pass.specs.declared.given.Which.{Which}
+use Rattle.sei_traverse.specs.PassActs.{asked_behind, pass_from}
+use Rattle.sei_traverse.specs.Phases.{closing_want, closing_place, closing_tree}
 use Rattle.sei_traverse.proofs.Branches.{same}
 
 -- the workspace behind an act that closed a phase
@@ -32,14 +34,14 @@ closes_then phase w words on h =
 pub closes_in_step : (phase : Phase) (w : Workspace) (words : List ℕ) (to : Place) → w.gate.done ≡ phase_number phase → honest (closes phase w words Nothing to) ≡ acted (closed w) words (Leads to)
 closes_in_step phase w words to h = closes_then phase w words (λ v. ends (record v { want = Nothing }) words (Leads to)) h
 
+-- a phase that is only closed leads on, with its want
+pub only_closes : (phase : Phase) (w : Workspace) (words : List ℕ) → w.gate.done ≡ phase_number phase →
+    honest (closing_tree phase w words) ≡ acted (record (closed_workspace w) { want = closing_want w phase }) words (Leads (closing_place phase))
+only_closes phase w words h = closes_then phase w words (λ v. ends (record v { want = closing_want w phase }) words (Leads (closing_place phase))) h
+
 -- behind a statement of a pass, no fewer questions are asked than is said
 
-pub first_behind : (w : Workspace) (words : List ℕ) (o : Outcome) → asked_behind o ≤ weighed (first_from w words o)
-first_behind w words (Next index) = omega arith
-first_behind w words Halted = omega arith
-first_behind w words (Bad cause) = omega arith
-
-pub second_behind : (w : Workspace) (words : List ℕ) (o : Outcome) → asked_behind o ≤ weighed (second_from w words o)
-second_behind w words (Next index) = omega arith
-second_behind w words Halted = omega arith
-second_behind w words (Bad cause) = omega arith
+pub pass_behind : (which : Which) (w : Workspace) (words : List ℕ) (o : Outcome) → asked_behind o ≤ weighed (pass_from which w words o)
+pass_behind which w words (Next index) = omega arith
+pass_behind which w words Halted = omega arith
+pass_behind which w words (Bad cause) = omega arith

@@ -2,10 +2,10 @@
 use Rattle.std.proofs.Common.{◌≡◌, ℕ, ◌+◌, ◌≤◌}
 use Rattle.sei_fault.specs.Phases.{phase_number}
 use Rattle.sei_fault.specs.declared.place.Phase.{Phase}
+use Rattle.sei_traverse.specs.Phases.{closing_want}
 use Rattle.sei_traverse.specs.declared.turned.Want.TheVariants.{Nothing}
 use Rattle.sei_traverse.specs.declared.workspace.Workspace.{Workspace}
 use Rattle.sei_traverse.specs.CallContext.{CallContext}
-use Rattle.sei_traverse.specs.FaultInvariant.{closing_want}
 
 -- as in `ClosesOnce`, but for the place of the workspace from which the phase was closed
 pub data ClosesNext (e : CallContext) (before : ℕ) (w : Workspace) (ended : Type 0) : Type 0 where

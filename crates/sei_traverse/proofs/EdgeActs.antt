@@ -27,13 +27,14 @@ use Rattle.sei_traverse.specs.declared.workspace.Workspace.{Workspace}
 use Rattle.sei_traverse.specs.Acts.{acted, ends, at, closes}
 use Rattle.sei_traverse.specs.Comes.{Agrees, Comes}
 use Rattle.sei_traverse.specs.CallContext.{CallContext, TellsTime, Follows, IsCallContext, given_in, first_setting, first_start}
-use Rattle.sei_traverse.specs.PassActs.{first_machine}
+use Rattle.sei_pass.specs.declared.given.Which.TheVariants.{Making}
+use Rattle.sei_traverse.specs.PassActs.{machine_in}
 use Rattle.sei_traverse.specs.Phases.{guard_tree, guard_call, take_tree, take_wanted, send_want}
 use Rattle.sei_traverse.specs.Given.{Given, given_of, has_sealed_call, bucket_of_call, bucket_or_zero}
 use Rattle.sei_traverse.specs.Step.{act_in, site_in, plain_below}
 use Rattle.sei_traverse.specs.Unstruck.{take_want, NextIn, IsOf, FirstIsNew, SecondIsNew, SecondIsDone, InGuard, InTake, WantedAt, FirstWaits, FirstRuns, InBoth, InEnter, InGive, HasOutput, InSend, InDone, IsFinished}
 use Rattle.sei_traverse.proofs.Branches.{below}
-use Rattle.sei_traverse.proofs.Closes.{closed_workspace, closes_then}
+use Rattle.sei_traverse.proofs.Closes.{closed_workspace, closes_then, only_closes}
 use Rattle.sei_traverse.proofs.GoesOn.{GoesOn}
 use Rattle.sei_traverse.proofs.TimeLaws.{comes_start}
 
@@ -222,12 +223,12 @@ start_at (Some t) g start blank fits c = record { comes = record { time = t; agr
 -- a traversal that waits there may be lent the words that were taken
 pub lends : (e : CallContext) (w : Workspace) (steps asked : ℕ) → TellsTime e.clock → FirstWaits e w steps asked → FirstRuns e w e.taken steps asked
 lends e w steps asked fits i =
-    let machine : first_machine w e.taken ≡ first_start e =
+    let machine : machine_in Making w e.taken ≡ first_start e =
     ap (λ (p : PassState). machine_of p e.taken w.first_log w.notes) i.first.first
     ∙ ap (λ (log : Kept Change). machine_of (new_pass e.space) e.taken log w.notes) i.first.first_log
     ∙ ap (λ (notes : Notes). machine_of (new_pass e.space) e.taken (first_start e).log notes) i.first.notes in
-    let there : next_at (first_start e) 0 ≡ next_at (first_machine w e.taken) w.place.index =
-    ap (λ (m : Machine). next_at m 0) (sym machine) ∙ ap (next_at (first_machine w e.taken)) (sym i.index) in
+    let there : next_at (first_start e) 0 ≡ next_at (machine_in Making w e.taken) w.place.index =
+    ap (λ (m : Machine). next_at m 0) (sym machine) ∙ ap (next_at (machine_in Making w e.taken)) (sym i.index) in
     let started = start_at e.clock (first_setting e) (first_start e) refl fits (comes_start (first_setting e) (first_start e) refl) in
     let moved = subst (λ (x : After). Started e.clock (first_setting e) (first_start e) x asked) there (subst (Started e.clock (first_setting e) (first_start e) (next_at (first_start e) 0)) (sym i.questions) started) in
     record {
@@ -253,7 +254,7 @@ module _ (e : CallContext) (now : ℕ) (w : Workspace) (words : List ℕ) (steps
     left = words;
     to = at Give 0;
     next = tt;
-    acts = closes_then Enter w words (λ v. ends (record v { want = WantEnter }) words (Leads (at Give 0))) i.is.gate;
+    acts = only_closes Enter w words i.is.gate;
     want = refl;
     more = 0;
     asks = omega arith;
@@ -278,7 +279,7 @@ module _ (e : CallContext) (now : ℕ) (w : Workspace) (words : List ℕ) (steps
     left = words;
     to = at Send 0;
     next = refl;
-    acts = closes_then Give w words (λ v. ends (record v { want = WantGive }) words (Leads (at Send 0))) i.is.gate;
+    acts = only_closes Give w words i.is.gate;
     want = refl;
     more = 0;
     asks = omega arith;
@@ -311,7 +312,7 @@ module _ (e : CallContext) (now : ℕ) (w : Workspace) (words : List ℕ) (steps
         left = words;
         to = at Done 0;
         next = refl;
-        acts = closes_then Send w words (λ v. ends (record v { want = want }) words (Leads (at Done 0))) i.is.gate;
+        acts = only_closes Send w words i.is.gate;
         want = refl;
         more = 0;
         asks = omega arith;
@@ -344,7 +345,7 @@ done_on e now bucket w words steps asked i = record {
   site = plain_first w.place.index i.index;
   workspace = record (closed_workspace w) { want = Nothing };
   left = words;
-  acts = closes_then Done w words (λ v. ends (record v { want = Nothing }) words (Leads (at Done 1))) i.is.gate;
+  acts = only_closes Done w words i.is.gate;
   want = refl;
   finished = record {
     place = refl;

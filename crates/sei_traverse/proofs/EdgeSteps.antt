@@ -65,7 +65,7 @@ module _ (P : Workspace → List ℕ → Type 0) (g : Given) (w : Workspace) (mo
   as_often now later u left act same h Skip = λ p. moved u left p h
   as_often now later u left act same h Twice = always_when (KeepsAt P w.place) Ends (act_tree g now u left) (twice g later) (act_there now u left same h) (λ y k. again_keeps later y.workspace y.words y.ending k.0 k.1)
 
-  at_site : (now later : ℕ) (u : Workspace) (left : List ℕ) → u.place ≡ w.place → P u left → (site : Option Act) → Always Ends (step_at g now later u left site)
+  at_site : (now later : ℕ) (u : Workspace) (left : List ℕ) → u.place ≡ w.place → P u left → (site : Option Act) → Always Ends (step_at site g now later u left)
   at_site now later u left same h None = h
   at_site now later u left same h (Some act) = λ times. as_often now later u left act same h times
 

@@ -17,7 +17,8 @@ use Rattle.sei_stmt.proofs.Public.{halts_or_aborts}
 use Rattle.sei_traverse.specs.declared.workspace.Workspace.{Workspace}
 use Rattle.sei_traverse.specs.Comes.{renoted}
 use Rattle.sei_traverse.specs.CallContext.{CallContext, given_in, first_start}
-use Rattle.sei_traverse.specs.PassActs.{second_machine}
+use Rattle.sei_pass.specs.declared.given.Which.TheVariants.{Reading}
+use Rattle.sei_traverse.specs.PassActs.{machine_in}
 use Rattle.sei_traverse.specs.Given.{call_of}
 use Rattle.sei_traverse.specs.Struck.{IsNoted, IsHonestResult, ComesOn, setting_on, start_on}
 use Rattle.sei_traverse.specs.Trusted.{PassesGuard, IsTrusted, second_setting}
@@ -98,20 +99,20 @@ module _ (e : CallContext) (trusted : IsTrusted e) (w : Workspace) (passed : Pas
 pub good_answers : (e : CallContext) → IsTrusted e → (w : Workspace) (words : List ℕ) (asked n : ℕ) → IsNoted e w.notes.now → ComesOn e w e.taken words Halted n →
     first_weighed (setting_on e w.wanted) (start_on e e.taken w.notes) n + 1 ≤ asked → IsHonestResult e w words asked
 good_answers e trusted w words asked n small comes asks =
-    let passed = halted_passed (setting_on e w.wanted) (start_on e e.taken w.notes) (second_machine w words) n trusted.parses (record { halts = comes }) in
+    let passed = halted_passed (setting_on e w.wanted) (start_on e e.taken w.notes) (machine_in Reading w words) n trusted.parses (record { halts = comes }) in
     let fit : PassesGuard e = good_fit e trusted w passed in
     let wanted : w.wanted ≡ e.call.bucket = good_wanted e trusted w passed in
-    let ends : HonestRun (second_setting e) (renoted w.notes (first_start e)) (second_machine w words) n =
-    subst (λ (b : ℕ). HonestRun (setting_on e b) (start_on e e.taken w.notes) (second_machine w words) n) wanted (record { halts = comes }) in
+    let ends : HonestRun (second_setting e) (renoted w.notes (first_start e)) (machine_in Reading w words) n =
+    subst (λ (b : ℕ). HonestRun (setting_on e b) (start_on e e.taken w.notes) (machine_in Reading w words) n) wanted (record { halts = comes }) in
     let asks_all : first_weighed (second_setting e) (renoted w.notes (first_start e)) n + 1 ≤ asked =
     subst (λ (b : ℕ). first_weighed (setting_on e b) (start_on e e.taken w.notes) n + 1 ≤ asked) wanted asks in
-    let read = trusted.reads fit w.notes (second_machine w words) n ends in
+    let read = trusted.reads fit w.notes (machine_in Reading w words) n ends in
     let may = small_sealed e w.notes.now read.time read.noted small in
     record {
       aimed = record { fit = fit; wanted = wanted };
       time = read.time;
       slot = read.slot;
-      end = renoted (notes_of read.time read.slot) (second_machine w words);
+      end = renoted (notes_of read.time read.slot) (machine_in Reading w words);
       made = n;
       noted = read.noted;
       small = may.0;

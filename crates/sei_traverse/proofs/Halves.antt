@@ -9,8 +9,8 @@ use Rattle.sei_traverse.specs.declared.turned.Want.{Want}
 use Rattle.sei_traverse.specs.declared.turned.Want.TheVariants.{Nothing}
 use Rattle.sei_traverse.specs.declared.workspace.Workspace.{Workspace}
 use Rattle.sei_traverse.specs.CallContext.{CallContext, Whole}
-use Rattle.sei_traverse.specs.FaultInvariant.{Knows, Wanted, closing_want, IsLikeWorkspace}
-use Rattle.sei_traverse.specs.Phases.{reply_of, send_want}
+use Rattle.sei_traverse.specs.FaultInvariant.{Knows, Wanted, IsLikeWorkspace}
+use Rattle.sei_traverse.specs.Phases.{reply_of, send_want, closing_want}
 use Rattle.sei_traverse.specs.Struck.{IsAimed, IsHonestResult, HasCopyOfSome, On}
 use Rattle.sei_traverse.specs.Trusted.{IsTrusted}
 use Rattle.sei_traverse.specs.Unstruck.{SecondIsDone, HasOutput, InBoth, CleanIn, first_questions}

@@ -60,14 +60,14 @@ module _ (g : Given) (now later : ℕ) (w : Workspace) (words : List ℕ) where
   -- the act is made once
   honest_whole_step : (act : Act) (x : Acted) → site_of g.behavior (unwanting w) ≡ Some act → honest (act_tree g now (unwanting w) words) ≡ x → honest (traversal_step g now later w words) ≡ honest (goes_on x)
   honest_whole_step act x site acts =
-      ap (λ (o : Option Act). honest (step_at g now later (unwanting w) words o)) site
+      ap (λ (o : Option Act). honest (step_at o g now later (unwanting w) words)) site
       ∙ honest_bound (act_tree g now (unwanting w) words) goes_on
       ∙ ap (λ (y : Acted). honest (goes_on y)) acts
 
   step_weighed : (act : Act) (x : Acted) → site_of g.behavior (unwanting w) ≡ Some act → honest (act_tree g now (unwanting w) words) ≡ x →
       weighed (traversal_step g now later w words) ≡ 0 + (weighed (act_tree g now (unwanting w) words) + weighed (goes_on x))
   step_weighed act x site acts =
-      ap (λ (o : Option Act). weighed (step_at g now later (unwanting w) words o)) site
+      ap (λ (o : Option Act). weighed (step_at o g now later (unwanting w) words)) site
       ∙ ap (λ (n : ℕ). 0 + n) (weighed_bound (act_tree g now (unwanting w) words) goes_on ∙ ap (λ (y : Acted). weighed (act_tree g now (unwanting w) words) + weighed (goes_on y)) acts)
 
   -- where the act leads to a place, the step goes there

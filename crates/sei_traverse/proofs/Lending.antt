@@ -9,10 +9,10 @@ use Rattle.sei_traverse.specs.declared.turned.State.{State}
 use Rattle.sei_traverse.specs.declared.turned.State.TheVariants.{Went}
 use Rattle.sei_traverse.specs.declared.workspace.Workspace.{Workspace}
 use Rattle.sei_traverse.specs.CallContext.{CallContext}
-use Rattle.sei_traverse.specs.FaultInvariant.{IsRight, LendsWanted, LendsOn, WantsBucket, Wanted, closing_want, ClosesOnce, IsAborted}
+use Rattle.sei_traverse.specs.FaultInvariant.{IsRight, LendsWanted, LendsOn, WantsBucket, Wanted, ClosesOnce, IsAborted}
 use Rattle.sei_traverse.specs.FaultInvariant.ClosesOnce.{Stays, Closes, Lacks}
 use Rattle.sei_traverse.specs.OnWay.{lent_words, LendsBucket, LendsBucketOf, LendsIn}
-use Rattle.sei_traverse.specs.Phases.{reply_of, send_want}
+use Rattle.sei_traverse.specs.Phases.{reply_of, send_want, closing_want}
 use Rattle.sei_traverse.specs.Struck.{IsHonestResult, On}
 use Rattle.sei_traverse.proofs.ActKeeps.{IsNoStore}
 use Rattle.sei_traverse.proofs.ClosesNext.{ClosesNext}

@@ -43,16 +43,17 @@ use Rattle.sei_traverse.specs.declared.turned.Want.TheVariants.{Nothing}
 use Rattle.sei_traverse.specs.declared.workspace.Ending.TheVariants.{Leads, Aborts}
 use Rattle.sei_traverse.specs.declared.workspace.Workspace.{Workspace}
 use Rattle.sei_traverse.specs.Acts.{acted, at, closes}
-use Rattle.sei_traverse.specs.PassActs.{with_first, with_second, first_to, second_to}
+use Rattle.sei_traverse.specs.PassActs.{pass_phase, pass_in, log_in, machine_in, with_machine, pass_to}
 use Rattle.sei_traverse.specs.Running.{On, on, Quiet, RunsOn, rest, begun_at, left_at}
 use Rattle.sei_traverse.specs.Given.{Given, given_of, setting_in}
 use Rattle.sei_stmt.specs.Handling.{Behavior}
 use Rattle.sei_traverse.specs.State.{IsTraversal}
 use Rattle.sei_traverse.specs.Step.{StepResult, step_result, act_tree, site_of, arrival, goes, goes_on, once, step_as, step_at, traversal_step, TimedTwice}
+use Rattle.sei_traverse.specs.Workspaces.{FitsIn}
 use Rattle.sei_traverse.proofs.Making.{makes_one}
 use Rattle.sei_traverse.proofs.PassLaws.{pass_again}
 use Rattle.sei_traverse.proofs.PublicLentBuckets.{left_in, left_place, left_bucket, left_words, left_is}
-use Rattle.sei_traverse.proofs.PublicWorkspaceKept.{KeepsWorkspace, FitsIn, step_kept}
+use Rattle.sei_traverse.proofs.PublicWorkspaceKept.{KeepsWorkspace, step_kept}
 use Rattle.sei_traverse.proofs.StepResultLaws.{same_bucket}
 
 -- what is done in two pieces, one after the other
@@ -62,25 +63,6 @@ bound_runs gives (Ended r) f c d y h = (c, r, (refl, refl), h)
 bound_runs gives (Ask q k) f c d y (a, n, g, r) = let i = bound_runs gives (k a) f n d y r in (i.0, i.1, (a, n, g, i.2), i.3)
 
 -- The workspace of a pass.
-
-abbrev pub pass_phase : Which → Phase
-pass_phase Making = First
-pass_phase Reading = Second
-
-abbrev pub pass_in : Which → Workspace → PassState
-pass_in Making w = w.first
-pass_in Reading w = w.second
-
-abbrev pub log_in : Which → Workspace → Kept Change
-log_in Making w = w.first_log
-log_in Reading w = w.second_log
-
-abbrev pub machine_in : Which → Workspace → List ℕ → Machine
-machine_in which w words = machine_of (pass_in which w) words (log_in which w) w.notes
-
-abbrev pub with_machine : Which → Workspace → Machine → Workspace
-with_machine Making w m = with_first w m
-with_machine Reading w m = with_second w m
 
 -- its pass stands at this index with this machine
 abbrev pub workspace_at : Which → Workspace → Want → ℕ → Machine → Workspace
@@ -127,10 +109,10 @@ arrival_in Reading i done = refl
 -- what is left of a step after its statement
 abbrev left_asked : Given → ℕ → ℕ → Which → Workspace → ℕ → Machine → Asked → Tree StepResult
 left_asked g now later which w i m (asked.Next to) = goes (workspace_at which w Nothing i m) m.words (at (pass_phase which) to)
-left_asked g now later which w i m asked.Halted = rest g now later (workspace_at which w Nothing i m) m.words Halted
-left_asked g now later which w i m (asked.Bad cause) = rest g now later (workspace_at which w Nothing i m) m.words (Bad cause)
-left_asked g now later which w i m (asked.Struck act times) = rest g now later (workspace_at which w Nothing i m) m.words (Struck act times)
-left_asked g now later which w i m asked.Alone = rest g now later (workspace_at which w Nothing i m) m.words Alone
+left_asked g now later which w i m asked.Halted = rest Halted g now later (workspace_at which w Nothing i m) m.words
+left_asked g now later which w i m (asked.Bad cause) = rest (Bad cause) g now later (workspace_at which w Nothing i m) m.words
+left_asked g now later which w i m (asked.Struck act times) = rest (Struck act times) g now later (workspace_at which w Nothing i m) m.words
+left_asked g now later which w i m asked.Alone = rest Alone g now later (workspace_at which w Nothing i m) m.words
 
 module _ {S : Type 0} (gives : S → (q : Question) → Answer q → S → Type 0) (g : Given) (now later : ℕ) where
   once_pass : (which : Which) (w : Workspace) (i : ℕ) (m n : Machine) (o : Outcome) (u d e : S) (z : StepResult) → Runs gives (step_tree (setting_in g which w.sealed now) i m) u d (at_outcome n o) →
@@ -139,32 +121,32 @@ module _ {S : Type 0} (gives : S → (q : Question) → Answer q → S → Type 
       let from = workspace_at Making w Nothing i m in
       let end = acted (workspace_at Making w Nothing i n) n.words (Leads (at First to)) in
       runs_bound gives (act_tree g now from m.words) goes_on u d e end z
-      (runs_bound gives (step_tree (setting_in g Making w.sealed now) i m) (first_to from) u d d (at_outcome n (Next to)) end r (refl, refl)) k
+      (runs_bound gives (step_tree (setting_in g Making w.sealed now) i m) (pass_to Making from) u d d (at_outcome n (Next to)) end r (refl, refl)) k
   once_pass Making w i m n Halts u d e z r k =
       let from = workspace_at Making w Nothing i m in
       let h = bound_runs gives (closes First (workspace_at Making w Nothing i n) n.words Nothing (at Restore 0)) goes_on d e z k in
       runs_bound gives (act_tree g now from m.words) goes_on u h.0 e h.1 z
-      (runs_bound gives (step_tree (setting_in g Making w.sealed now) i m) (first_to from) u d h.0 (at_outcome n Halts) h.1 r h.2) h.3
+      (runs_bound gives (step_tree (setting_in g Making w.sealed now) i m) (pass_to Making from) u d h.0 (at_outcome n Halts) h.1 r h.2) h.3
   once_pass Making w i m n (Aborting cause) u d e z r k =
       let from = workspace_at Making w Nothing i m in
       let end = acted (workspace_at Making w Nothing i n) n.words (Aborts cause) in
       runs_bound gives (act_tree g now from m.words) goes_on u d e end z
-      (runs_bound gives (step_tree (setting_in g Making w.sealed now) i m) (first_to from) u d d (at_outcome n (Aborting cause)) end r (refl, refl)) k
+      (runs_bound gives (step_tree (setting_in g Making w.sealed now) i m) (pass_to Making from) u d d (at_outcome n (Aborting cause)) end r (refl, refl)) k
   once_pass Reading w i m n (Next to) u d e z r k =
       let from = workspace_at Reading w Nothing i m in
       let end = acted (workspace_at Reading w Nothing i n) n.words (Leads (at Second to)) in
       runs_bound gives (act_tree g now from m.words) goes_on u d e end z
-      (runs_bound gives (step_tree (setting_in g Reading w.sealed now) i m) (second_to from) u d d (at_outcome n (Next to)) end r (refl, refl)) k
+      (runs_bound gives (step_tree (setting_in g Reading w.sealed now) i m) (pass_to Reading from) u d d (at_outcome n (Next to)) end r (refl, refl)) k
   once_pass Reading w i m n Halts u d e z r k =
       let from = workspace_at Reading w Nothing i m in
       let h = bound_runs gives (closes Second (workspace_at Reading w Nothing i n) n.words Nothing (at Compare 0)) goes_on d e z k in
       runs_bound gives (act_tree g now from m.words) goes_on u h.0 e h.1 z
-      (runs_bound gives (step_tree (setting_in g Reading w.sealed now) i m) (second_to from) u d h.0 (at_outcome n Halts) h.1 r h.2) h.3
+      (runs_bound gives (step_tree (setting_in g Reading w.sealed now) i m) (pass_to Reading from) u d h.0 (at_outcome n Halts) h.1 r h.2) h.3
   once_pass Reading w i m n (Aborting cause) u d e z r k =
       let from = workspace_at Reading w Nothing i m in
       let end = acted (workspace_at Reading w Nothing i n) n.words (Aborts cause) in
       runs_bound gives (act_tree g now from m.words) goes_on u d e end z
-      (runs_bound gives (step_tree (setting_in g Reading w.sealed now) i m) (second_to from) u d d (at_outcome n (Aborting cause)) end r (refl, refl)) k
+      (runs_bound gives (step_tree (setting_in g Reading w.sealed now) i m) (pass_to Reading from) u d d (at_outcome n (Aborting cause)) end r (refl, refl)) k
 
   module _ (which : Which) (w : Workspace) where
     abbrev setting : Setting
@@ -198,7 +180,7 @@ module _ {S : Type 0} (gives : S → (q : Question) → Answer q → S → Type 
         let s = asks.statement in
         let act = act_of x.machine.registers s in
         let r = arm_is (is_looped s) (arm_at setting (pass_phase which) x.index x.machine s act) x.machine x.core d (record { machine = m; asked = a }) never asks.runs in
-        subst (λ (o : Option Act). Runs gives (step_at g now later (workspace_at which w Nothing x.index x.machine) x.machine.words o) x.core e z)
+        subst (λ (o : Option Act). Runs gives (step_at o g now later (workspace_at which w Nothing x.index x.machine) x.machine.words) x.core e z)
         (sym (site_at which g.behavior w x.index x.machine ∙ ap (option_map (act_of x.machine.registers)) asks.stands))
         (r.0, r.1, r.2, as_pass x.index x.machine s act r.0 r.1 d e (record { machine = m; asked = a }) z asks.stands asks.room r.3 k)
 
@@ -212,7 +194,7 @@ module _ {S : Type 0} (gives : S → (q : Question) → Answer q → S → Type 
 
     -- whatever finishes what the loop left of a step, finishes the step
     leaves_step : (want : Want) (x : Here S) (exit : Exit) (m : Machine) (d e : S) (z : StepResult) → Leaves gives setting (pass_phase which) x exit m d →
-        Runs gives (rest g now later (workspace_at which w Nothing x.index m) m.words exit) d e z → Runs gives (traversal_step g now later (workspace_at which w want x.index x.machine) x.machine.words) x.core e z
+        Runs gives (rest exit g now later (workspace_at which w Nothing x.index m) m.words) d e z → Runs gives (traversal_step g now later (workspace_at which w want x.index x.machine) x.machine.words) x.core e z
     leaves_step want x (At p) m d e z (to, c, asks, h) k = asked_pass want x (asked.Next to) m c e z asks (λ e. cc) (p, d, h, k)
     leaves_step want x Halted m d e z asks k = asked_pass want x asked.Halted m d e z asks (λ e. cc) k
     leaves_step want x (Bad cause) m d e z asks k = asked_pass want x (asked.Bad cause) m d e z asks (λ e. cc) k
@@ -261,11 +243,11 @@ module _ {S : Type 0} (gives : S → (q : Question) → Answer q → S → Type 
   pub step_leaves : (c d f : S) (exit : Exit) (z : StepResult) → place_of mid ≡ place_of lent_bucket →
       ((g : Setting) (notes : Notes) → g.statements ≡ behavior.statements → g.budget ≡ (pass_in which w).space.budget →
       Leaves gives g (pass_phase which) (begin c notes) exit (machine_of q (words_of mid) log notes) d) →
-      TimedTwice gives told (λ a b. rest (given_of behavior input space (bucket_of mid)) a b (workspace_left which w q log) (words_of mid) exit) d f z →
+      TimedTwice gives told (λ a b. rest exit (given_of behavior input space (bucket_of mid)) a b (workspace_left which w q log) (words_of mid)) d f z →
       Turns c f z
   step_leaves c d f exit z placed left r =
-      let lent = subst (λ (k : Option ℕ). TimedTwice gives told (λ a b. rest (given_of behavior input space k) a b (workspace_left which w q log) (words_of mid) exit) d f z) (same_bucket mid lent_bucket placed) r in
-      let on_machine = subst (λ (v : Workspace). TimedTwice gives told (λ a b. rest given_now a b v (words_of mid) exit) d f z) (workspace_is_left which w q log stands ∙ workspace_again which w w.place.index q (words_of mid) log same) lent in
+      let lent = subst (λ (k : Option ℕ). TimedTwice gives told (λ a b. rest exit (given_of behavior input space k) a b (workspace_left which w q log) (words_of mid)) d f z) (same_bucket mid lent_bucket placed) r in
+      let on_machine = subst (λ (v : Workspace). TimedTwice gives told (λ a b. rest exit given_now a b v (words_of mid)) d f z) (workspace_is_left which w q log stands ∙ workspace_again which w w.place.index q (words_of mid) log same) lent in
       let leaves = left (setting_in given_now which w.sealed on_machine.now) w.notes refl (ap (λ (k : PassSpace). k.budget) (sym here)) in
       record {
         now = on_machine.now;
@@ -346,7 +328,7 @@ module _ {S : Type 0} (gives : S → (q : Question) → Answer q → S → Type 
   -- so it and what is done after it are a run
   pub runs_on : (c d f : S) (n i : ℕ) (exit : Exit) (m : Machine) (u : Workspace) (left : Option BucketWords) (t : Turned) → w.place.phase ≡ pass_phase which → steps ≤ 2 ^ 64 - 1 →
       IsTraversal (begun_at w space steps) → place_of left ≡ place_of lent_bucket → t.want ≡ u.want →
-      (r : TimedTwice gives told (λ a b. rest given a b (workspace_at which w Nothing i m) m.words exit) d f (step_result u (words_of left) t.state)) →
+      (r : TimedTwice gives told (λ a b. rest exit given a b (workspace_at which w Nothing i m) m.words) d f (step_result u (words_of left) t.state)) →
       RunsLoop gives (setting_in given which w.sealed r.now) (pass_phase which) n i (record { machine = machine_in which w (words_of lent_bucket); index = w.place.index; core = c }) exit m d →
       RunsOn gives counts told behavior input n (on (begun_at w space steps) lent_bucket c)
       (on (left_at u space steps (record { before = n; turned = t })) left f) t
@@ -371,12 +353,12 @@ module _ {S : Type 0} (gives : S → (q : Question) → Answer q → S → Type 
       IsTraversal (begun_at w space steps) → q.space ≡ (pass_in which w).space → (pass_in which w).space ≡ space → place_of mid ≡ place_of lent_bucket → place_of left ≡ place_of mid → t.want ≡ u.want →
       ((g : Setting) (notes : Notes) → g.statements ≡ behavior.statements → g.budget ≡ (pass_in which w).space.budget →
       RunsLoop gives g (pass_phase which) n i (record { machine = machine_of (pass_in which w) (words_of lent_bucket) (log_in which w) notes; index = w.place.index; core = c }) exit (machine_of q (words_of mid) log notes) d) →
-      TimedTwice gives told (λ a b. rest (given_of behavior input space (bucket_of mid)) a b (workspace_with which w i q log) (words_of mid) exit) d f (step_result u (words_of left) t.state) →
+      TimedTwice gives told (λ a b. rest exit (given_of behavior input space (bucket_of mid)) a b (workspace_with which w i q log) (words_of mid)) d f (step_result u (words_of left) t.state) →
       RunsOn gives counts told behavior input n (on (begun_at w space steps) lent_bucket c) (on (left_at u space steps (record { before = n; turned = t })) left f) t
   run_pass c d f n i exit q log mid u left t e small is same here placed last wanted ran r =
       let z = step_result u (words_of left) t.state in
-      let lent = subst (λ (k : Option ℕ). TimedTwice gives told (λ a b. rest (given_of behavior input space k) a b (workspace_with which w i q log) (words_of mid) exit) d f z) (same_bucket mid lent_bucket placed) r in
-      let on_machine = subst (λ (v : Workspace). TimedTwice gives told (λ a b. rest given a b v (words_of mid) exit) d f z) (workspace_again which w i q (words_of mid) log same) lent in
+      let lent = subst (λ (k : Option ℕ). TimedTwice gives told (λ a b. rest exit (given_of behavior input space k) a b (workspace_with which w i q log) (words_of mid)) d f z) (same_bucket mid lent_bucket placed) r in
+      let on_machine = subst (λ (v : Workspace). TimedTwice gives told (λ a b. rest exit given a b v (words_of mid)) d f z) (workspace_again which w i q (words_of mid) log same) lent in
       runs_on c d f n i exit (machine_of q (words_of mid) log w.notes) u left t e (omega (arith, small)) is (last ∙ placed) wanted on_machine
       (ran (setting_in given which w.sealed on_machine.now) w.notes refl (ap (λ (k : PassSpace). k.budget) (sym here)))
 

@@ -12,18 +12,19 @@ use Rattle.sei_fault.specs.Phases.{phase_number}
 use Rattle.sei_fault.specs.Tree.{Tree, honest, bound}
 use Rattle.sei_fault.proofs.Public.{honest_bound}
 use Rattle.sei_gate.specs.Closing.{risen}
+use Rattle.sei_pass.specs.declared.given.Which.{Which}
 use Rattle.sei_pass.specs.declared.given.Which.TheVariants.{Making, Reading}
 use Rattle.sei_pass.specs.Setting.{is_intact}
 use Rattle.sei_restore.specs.Undoing.{Undone, undo_at}
-use Rattle.sei_stmt.specs.Machine.{Outcome, After}
+use Rattle.sei_stmt.specs.Machine.{Machine, Outcome, After}
 use Rattle.sei_stmt.specs.Machine.Outcome.{Next, Halted, Bad}
 use Rattle.sei_stmt.specs.Statements.{step_tree}
 use Rattle.sei_traverse.specs.declared.turned.Want.TheVariants.{Nothing, Enter as WantEnter, Give as WantGive}
 use Rattle.sei_traverse.specs.declared.workspace.Ending.{Ending}
 use Rattle.sei_traverse.specs.declared.workspace.Ending.TheVariants.{Leads, Refuses, Aborts}
 use Rattle.sei_traverse.specs.declared.workspace.Workspace.{Workspace}
-use Rattle.sei_traverse.specs.Acts.{Acted, acted, ends, at, closed_to, closing_then, closes}
-use Rattle.sei_traverse.specs.PassActs.{first_machine, second_machine, with_first, with_second, first_from, first_to, second_from, second_to}
+use Rattle.sei_traverse.specs.Acts.{Acted, acted, ends, at, closed_to, closing_then, closes, next_phase}
+use Rattle.sei_traverse.specs.PassActs.{pass_phase, machine_in, with_machine, pass_from, pass_to, pass_tree}
 use Rattle.sei_traverse.specs.Phases.{guard_call, take_wanted, store_wanted, undone_as, undone_to, compared, entries_to, outputs_to, word_to, copy_bytes, wire_to, verify_copy, send_want, reply_of}
 use Rattle.sei_traverse.specs.Given.{Given, has_sealed_call, setting_in}
 use Rattle.sei_traverse.specs.Step.{act_in}
@@ -81,30 +82,22 @@ module _ (g : Given) (now : ℕ) (w : Workspace) (words : List ℕ) where
 
 -- The passes: a statement leads on, aborts, or comes to a closing.
 
-first_ends : (w v : Workspace) → IsAlike w v → (words : List ℕ) (o : Outcome) → w.gate.done ≢ 2 → StaysLost First w (honest (first_from v words o))
-first_ends w v alike words (Next index) lost = lost_leads First w v alike words index
-first_ends w v alike words Halted lost = lost_closing First w v alike words (λ v. ends (record v { want = Nothing }) words (Leads (at Restore 0))) lost
-first_ends w v alike words (Bad cause) lost = lost_aborts First w v alike words cause
+pass_ends : (which : Which) (w v : Workspace) → IsAlike w v → (words : List ℕ) (o : Outcome) → w.gate.done ≢ phase_number (pass_phase which) → StaysLost (pass_phase which) w (honest (pass_from which v words o))
+pass_ends which w v alike words (Next index) lost = lost_leads (pass_phase which) w v alike words index
+pass_ends which w v alike words Halted lost = lost_closing (pass_phase which) w v alike words (λ v. ends (record v { want = Nothing }) words (Leads (at (next_phase (pass_phase which)) 0))) lost
+pass_ends which w v alike words (Bad cause) lost = lost_aborts (pass_phase which) w v alike words cause
 
-second_ends : (w v : Workspace) → IsAlike w v → (words : List ℕ) (o : Outcome) → w.gate.done ≢ 4 → StaysLost Second w (honest (second_from v words o))
-second_ends w v alike words (Next index) lost = lost_leads Second w v alike words index
-second_ends w v alike words Halted lost = lost_closing Second w v alike words (λ v. ends (record v { want = Nothing }) words (Leads (at Compare 0))) lost
-second_ends w v alike words (Bad cause) lost = lost_aborts Second w v alike words cause
+alike_pass : (which : Which) (w : Workspace) (m : Machine) → IsAlike w (with_machine which w m)
+alike_pass Making w m = record { want = refl; gate = refl; sealed = refl }
+alike_pass Reading w m = record { want = refl; gate = refl; sealed = refl }
 
 module _ (g : Given) (now : ℕ) (w : Workspace) (words : List ℕ) where
-  lost_first : w.gate.done ≢ 2 → StaysLost First w (honest (act_in g now First w.place.index w words))
-  lost_first lost =
-      let t : Tree After = step_tree (setting_in g Making w.sealed now) w.place.index (first_machine w words) in
+  lost_pass : (which : Which) → w.gate.done ≢ phase_number (pass_phase which) → StaysLost (pass_phase which) w (honest (pass_tree which g now w.place.index w words))
+  lost_pass which lost =
+      let t : Tree After = step_tree (setting_in g which w.sealed now) w.place.index (machine_in which w words) in
       let x : After = honest t in
-      subst (StaysLost First w) (sym (honest_bound t (first_to w)))
-      (first_ends w (with_first w x.machine) (record { want = refl; gate = refl; sealed = refl }) x.machine.words x.outcome lost)
-
-  lost_second : w.gate.done ≢ 4 → StaysLost Second w (honest (act_in g now Second w.place.index w words))
-  lost_second lost =
-      let t : Tree After = step_tree (setting_in g Reading w.sealed now) w.place.index (second_machine w words) in
-      let x : After = honest t in
-      subst (StaysLost Second w) (sym (honest_bound t (second_to w)))
-      (second_ends w (with_second w x.machine) (record { want = refl; gate = refl; sealed = refl }) x.machine.words x.outcome lost)
+      subst (StaysLost (pass_phase which) w) (sym (honest_bound t (pass_to which w)))
+      (pass_ends which w (with_machine which w x.machine) (alike_pass which w x.machine) x.machine.words x.outcome lost)
 
   -- Restore
 
@@ -175,9 +168,9 @@ pub lost_on : (g : Given) (now : ℕ) (phase : Phase) (w : Workspace) (words : L
     (phase ≡ Guard → (is_intact w.sealed g.input ≡ true) × (has_sealed_call g w.sealed ≡ true)) → StaysLost phase w (honest (act_in g now phase w.place.index w words))
 lost_on g now Guard w words lost fit = lost_guard g now w words lost (fit refl)
 lost_on g now Take w words lost fit = lost_take g now w words lost
-lost_on g now First w words lost fit = lost_first g now w words lost
+lost_on g now First w words lost fit = lost_pass g now w words Making lost
 lost_on g now Restore w words lost fit = lost_restore g now w words lost
-lost_on g now Second w words lost fit = lost_second g now w words lost
+lost_on g now Second w words lost fit = lost_pass g now w words Reading lost
 lost_on g now Compare w words lost fit = lost_compare g now w words lost
 lost_on g now Verify w words lost fit = lost_verify g now w words lost
 lost_on g now Enter w words lost fit = lost_closing Enter w w (itself w) words (λ v. ends (record v { want = WantEnter }) words (Leads (at Give 0))) lost

@@ -61,7 +61,7 @@ module _ (e : CallContext) (laws : (phase : Phase) → (phase ≡ Guard → ⊥)
   open_still : StaysOpen w.place.phase w its_end
   open_still = stays_open e laws lent_bucket now w (words_of lent_bucket) lost wrong fit sealed
 
-  pub stays_lost : (site : Option Act) → StaysLost w.gate.done (honest (step_at (given_with e lent_bucket) now later w (words_of lent_bucket) site))
+  pub stays_lost : (site : Option Act) → StaysLost w.gate.done (honest (step_at site (given_with e lent_bucket) now later w (words_of lent_bucket)))
   stays_lost None = record { want = nothing; gate = refl; lost = λ went same. let z : ⊥ = cc in z; unfinished = λ finished. let z : ⊥ = cc in z }
   stays_lost (Some act) =
       subst (StaysLost w.gate.done) (sym (honest_bound (act_tree (given_with e lent_bucket) now w (words_of lent_bucket)) goes_on))

@@ -7,14 +7,16 @@ use Rattle.sei_fault.proofs.Public.{always}
 use Rattle.sei_words.specs.LentBucket.{words_of, bucket_of, place_of}
 use Rattle.sei_traverse.specs.declared.turned.State.{State}
 use Rattle.sei_traverse.specs.declared.turned.Turned.{Turned}
-use Rattle.sei_traverse.specs.Running.{On, Makes}
+use Rattle.sei_traverse.specs.Running.{On, work_on, Makes}
 use Rattle.sei_traverse.specs.Given.{Given, given_of}
 use Rattle.sei_stmt.specs.Handling.{Behavior}
 use Rattle.sei_traverse.specs.State.{IsTraversal, one_more, is_running}
-use Rattle.sei_traverse.specs.Step.{StepResult, step_result, traversal_step, TimedTwice}
+use Rattle.sei_traverse.specs.Step.{StepResult, step_result, traversal_step}
+use Rattle.sei_traverse.specs.Work.{TurnsAs}
+use Rattle.sei_traverse.specs.Workspaces.{FitsIn}
 use Rattle.sei_traverse.proofs.CountLaws.{asked_turned, struck_turned}
 use Rattle.sei_traverse.proofs.NotingLaws.{notes_time}
-use Rattle.sei_traverse.proofs.PublicWorkspaceKept.{KeepsWorkspace, FitsIn, step_kept}
+use Rattle.sei_traverse.proofs.PublicWorkspaceKept.{KeepsWorkspace, step_kept}
 
 module _ {S : Type 0} (gives : S → (q : Question) → Answer q → S → Type 0) (counts : S → Counts)
     (law : (s : S) (q : Question) (a : Answer q) (t : S) → gives s q a t → Answered (a ≡ honestly_to q) (counts s) (counts t)) (told : Option ℕ) (behavior : Behavior) (input : List ℕ) where
@@ -23,8 +25,7 @@ module _ {S : Type 0} (gives : S → (q : Question) → Answer q → S → Type 
 
   -- a step of the definition that ends in this state
   abbrev pub Turns : On S → On S → State → Type 0
-  Turns x y state =
-      TimedTwice gives told (λ now later. traversal_step (given_at x) now later x.traversal.workspace (words_of x.lent)) x.core y.core (step_result y.traversal.workspace (words_of y.lent) state)
+  Turns x y state = TurnsAs gives told behavior input x.traversal.space traversal_step (work_on x) (work_on y) state
 
   abbrev pub KeepsOn : On S → On S → Type 0
   KeepsOn x y = KeepsWorkspace x.traversal.space (behavior.parsed input) x.traversal.workspace (words_of x.lent) y.traversal.workspace (words_of y.lent)

@@ -22,6 +22,7 @@ use Rattle.sei_stmt.specs.Machine.{Machine, Setting, Outcome, After, one_made}
 use Rattle.sei_stmt.specs.Machine.Outcome.{Next, Halted, Bad}
 use Rattle.sei_stmt.specs.Statements.{now_by, statement_tree, step_tree}
 use Rattle.sei_stmt.proofs.PublicStatementEnds.{IsNow, now_or_not, by_statement}
+use Rattle.sei_pass.specs.declared.given.Which.{Which}
 use Rattle.sei_pass.specs.declared.given.Which.TheVariants.{Making, Reading}
 use Rattle.sei_pass.specs.Steps.{IsAnswer}
 use Rattle.sei_restore.specs.Undoing.{undo_at}
@@ -32,10 +33,10 @@ use Rattle.sei_traverse.specs.declared.turned.Want.TheVariants.{Nothing, Take as
 use Rattle.sei_traverse.specs.declared.workspace.Ending.{Ending}
 use Rattle.sei_traverse.specs.declared.workspace.Ending.TheVariants.{Leads, Refuses, Aborts}
 use Rattle.sei_traverse.specs.declared.workspace.Workspace.{Workspace}
-use Rattle.sei_traverse.specs.Acts.{Acted, ends, at, closed_to, closing_then, closes}
+use Rattle.sei_traverse.specs.Acts.{Acted, ends, at, closed_to, closing_then, closes, next_phase}
 use Rattle.sei_traverse.specs.Noting.{NotesTime}
 use Rattle.sei_traverse.specs.Noting.NotesTime.{Same, Noted}
-use Rattle.sei_traverse.specs.PassActs.{first_machine, second_machine, with_first, with_second, first_from, first_to, first_tree, second_from, second_to, second_tree}
+use Rattle.sei_traverse.specs.PassActs.{pass_phase, machine_in, with_machine, pass_from, pass_to, pass_tree}
 use Rattle.sei_traverse.specs.Phases.{guard_call, store_wanted, take_wanted, undone_as, undone_to, compared, entries_to, outputs_to, word_to, reply_of, copy_bytes, wire_to, verify_copy, send_want}
 use Rattle.sei_traverse.specs.Given.{Given, setting_in}
 use Rattle.sei_traverse.specs.Step.{StepResult, step_result, act_in, act_tree, site_of, goes, goes_on, once, unless_ended, twice, step_as, step_at, traversal_step, TimedTwice}
@@ -109,29 +110,21 @@ module _ (told : Option ℕ) where
     notes_take g words true = λ b wanted. Same refl
     notes_take g words false = λ yes. take_closed g words yes
 
-    first_onward : (v : Workspace) (words : List ℕ) (o : Outcome) → NotesTime told w.notes.now v.notes.now → Always Notes (first_from v words o)
-    first_onward v words (Next i) h = h
-    first_onward v words Halted h = notes_closes First v words Nothing (at Restore 0) h
-    first_onward v words (Bad cause) h = h
+    pass_onward : (which : Which) (v : Workspace) (words : List ℕ) (o : Outcome) → NotesTime told w.notes.now v.notes.now → Always Notes (pass_from which v words o)
+    pass_onward which v words (Next i) h = h
+    pass_onward which v words Halted h = notes_closes (pass_phase which) v words Nothing (at (next_phase (pass_phase which)) 0) h
+    pass_onward which v words (Bad cause) h = h
 
-    notes_first : (g : Given) (now index : ℕ) (words : List ℕ) → IsAnswer told now → Always Notes (first_tree g now index w words)
-    notes_first g now index words answer =
-        let s : Setting = setting_in g Making w.sealed now in
-        always_bound (λ (x : After). NotesTime told w.notes.now x.machine.notes.now) Notes (step_tree s index (first_machine w words)) (first_to w)
-        (λ x h. first_onward (with_first w x.machine) x.machine.words x.outcome h)
-        (notes_step s index (first_machine w words) answer)
+    notes_with : (which : Which) (m : Machine) → NotesTime told w.notes.now m.notes.now → NotesTime told w.notes.now (with_machine which w m).notes.now
+    notes_with Making m h = h
+    notes_with Reading m h = h
 
-    second_onward : (v : Workspace) (words : List ℕ) (o : Outcome) → NotesTime told w.notes.now v.notes.now → Always Notes (second_from v words o)
-    second_onward v words (Next i) h = h
-    second_onward v words Halted h = notes_closes Second v words Nothing (at Compare 0) h
-    second_onward v words (Bad cause) h = h
-
-    notes_second : (g : Given) (now index : ℕ) (words : List ℕ) → IsAnswer told now → Always Notes (second_tree g now index w words)
-    notes_second g now index words answer =
-        let s : Setting = setting_in g Reading w.sealed now in
-        always_bound (λ (x : After). NotesTime told w.notes.now x.machine.notes.now) Notes (step_tree s index (second_machine w words)) (second_to w)
-        (λ x h. second_onward (with_second w x.machine) x.machine.words x.outcome h)
-        (notes_step s index (second_machine w words) answer)
+    notes_pass : (which : Which) (g : Given) (now index : ℕ) (words : List ℕ) → IsAnswer told now → Always Notes (pass_tree which g now index w words)
+    notes_pass which g now index words answer =
+        let s : Setting = setting_in g which w.sealed now in
+        always_bound (λ (x : After). NotesTime told w.notes.now x.machine.notes.now) Notes (step_tree s index (machine_in which w words)) (pass_to which w)
+        (λ x h. pass_onward which (with_machine which w x.machine) x.machine.words x.outcome (notes_with which x.machine h))
+        (notes_step s index (machine_in which w words) answer)
 
     notes_undone : (words : List ℕ) (index : ℕ) (cause : Option AbortCause) → Always Notes (undone_as w words index cause)
     notes_undone words index None = Same refl
@@ -187,9 +180,9 @@ module _ (told : Option ℕ) where
     notes_act : (g : Given) (now : ℕ) (phase : Phase) (index : ℕ) (words : List ℕ) → IsAnswer told now → Always Notes (act_in g now phase index w words)
     notes_act g now Guard index words answer = λ yes. notes_guard g words yes
     notes_act g now Take index words answer = notes_take g words (index == 0)
-    notes_act g now First index words answer = notes_first g now index words answer
+    notes_act g now First index words answer = notes_pass Making g now index words answer
     notes_act g now Restore index words answer = notes_restore index words (nat_lt index (length w.first_log.items))
-    notes_act g now Second index words answer = notes_second g now index words answer
+    notes_act g now Second index words answer = notes_pass Reading g now index words answer
     notes_act g now Compare index words answer = notes_compare index words (nat_lt index (compared w))
     notes_act g now Verify index words answer = notes_verify index words (nat_lt index (length w.second_log.items))
     notes_act g now Enter index words answer = notes_closes Enter w words WantEnter (at Give 0) (Same refl)
@@ -226,7 +219,7 @@ module _ (told : Option ℕ) where
   times_notes g now later w words act Skip answer again = λ p. Same refl
   times_notes g now later w words act Twice answer again = twice_notes g now later w words answer again
 
-  step_notes : (g : Given) (now later : ℕ) (w : Workspace) (words : List ℕ) (o : Option Act) → IsAnswer told now → IsAnswer told later → Always (NotesOn w) (step_at g now later w words o)
+  step_notes : (g : Given) (now later : ℕ) (w : Workspace) (words : List ℕ) (o : Option Act) → IsAnswer told now → IsAnswer told later → Always (NotesOn w) (step_at o g now later w words)
   step_notes g now later w words None answer again = Same refl
   step_notes g now later w words (Some act) answer again = λ times. times_notes g now later w words act times answer again
 

@@ -29,11 +29,11 @@ use Rattle.sei_traverse.specs.declared.workspace.Workspace.{Workspace}
 use Rattle.sei_traverse.specs.Acts.{at}
 use Rattle.sei_traverse.specs.Comes.{at_time, again, renoted, renoted_end, Agrees, Comes}
 use Rattle.sei_traverse.specs.CallContext.{CallContext, Follows, given_in, first_setting, first_start, IsCallContext, Whole}
-use Rattle.sei_traverse.specs.PassActs.{asked_behind, pass_of, first_machine, second_machine, with_first, with_second, first_from, first_to, second_from, second_to}
+use Rattle.sei_traverse.specs.PassActs.{pass_of, machine_in, with_machine, asked_behind, pass_from, pass_to}
 use Rattle.sei_traverse.specs.Given.{setting_in}
 use Rattle.sei_traverse.specs.Step.{act_in, site_in}
 use Rattle.sei_traverse.specs.Unstruck.{IsOf, SecondIsNew, FirstRuns, InFirst, InRestore, InSecond, InBoth, InCompare}
-use Rattle.sei_traverse.proofs.Closes.{closed, closes_in_step, first_behind, second_behind}
+use Rattle.sei_traverse.proofs.Closes.{closed, closes_in_step, pass_behind, pass_behind}
 use Rattle.sei_traverse.proofs.GoesOn.{GoesOn}
 use Rattle.sei_traverse.proofs.NoteLaws.{repeats, repeats_asked}
 use Rattle.sei_traverse.proofs.TimeLaws.{timeless_again, after_again, weighed_after_again, within_clock, agrees_on, comes_on, goes_on, Stands, ends_so}
@@ -82,23 +82,23 @@ followed (Some t) g start n q x time now h k c f = record { comes = record { tim
 module _ (e : CallContext) (now : ℕ) (w : Workspace) (words : List ℕ) where
   -- the step of the first pass
   abbrev first_step : Tree After
-  first_step = step_tree (at_time (first_setting e) now) w.place.index (first_machine w words)
+  first_step = step_tree (at_time (first_setting e) now) w.place.index (machine_in Making w words)
 
   abbrev first_end : After
   first_end = honest first_step
 
-  first_acts : w.sealed ≡ e.sealed → honest (act_in (given_in e) now First w.place.index w words) ≡ honest (first_to w first_end)
+  first_acts : w.sealed ≡ e.sealed → honest (act_in (given_in e) now First w.place.index w words) ≡ honest (pass_to Making w first_end)
   first_acts is =
-      honest_bound (step_tree (setting_in (given_in e) Making w.sealed now) w.place.index (first_machine w words)) (first_to w)
-      ∙ ap (λ (s : Sealed). honest (first_to w (honest (step_tree (setting_in (given_in e) Making s now) w.place.index (first_machine w words))))) is
+      honest_bound (step_tree (setting_in (given_in e) Making w.sealed now) w.place.index (machine_in Making w words)) (pass_to Making w)
+      ∙ ap (λ (s : Sealed). honest (pass_to Making w (honest (step_tree (setting_in (given_in e) Making s now) w.place.index (machine_in Making w words))))) is
 
   -- it asks what the statement asks, and the closing test where that halts
   first_asks : w.sealed ≡ e.sealed → weighed first_step + asked_behind first_end.outcome ≤ weighed (act_in (given_in e) now First w.place.index w words)
   first_asks is =
-      let all = weighed_bound first_step (first_to w) in
-      let behind = first_behind (with_first w first_end.machine) first_end.machine.words first_end.outcome in
-      let here : weighed first_step + asked_behind first_end.outcome ≤ weighed (bound first_step (first_to w)) = omega (arith, all, behind) in
-      subst (λ (s : Sealed). weighed first_step + asked_behind first_end.outcome ≤ weighed (bound (step_tree (setting_in (given_in e) Making s now) w.place.index (first_machine w words)) (first_to w)))
+      let all = weighed_bound first_step (pass_to Making w) in
+      let behind = pass_behind Making (with_machine Making w first_end.machine) first_end.machine.words first_end.outcome in
+      let here : weighed first_step + asked_behind first_end.outcome ≤ weighed (bound first_step (pass_to Making w)) = omega (arith, all, behind) in
+      subst (λ (s : Sealed). weighed first_step + asked_behind first_end.outcome ≤ weighed (bound (step_tree (setting_in (given_in e) Making s now) w.place.index (machine_in Making w words)) (pass_to Making w)))
       (sym is) here
 
   first_asks_closing : w.sealed ≡ e.sealed → first_end.outcome ≡ Halted → weighed first_step + 1 ≤ weighed (act_in (given_in e) now First w.place.index w words)
@@ -108,8 +108,8 @@ module _ (e : CallContext) (now : ℕ) (w : Workspace) (words : List ℕ) where
     first_followed : Followed e.clock (first_setting e) (first_start e) (suc runs.made) (asked + weighed first_step) first_end
     first_followed =
         followed e.clock (first_setting e) (first_start e) (suc runs.made) (asked + weighed first_step) first_end runs.comes.time now runs.told told
-        (comes_on (first_setting e) (first_start e) refl refl call_context.ends runs.made w.place.index asked now (first_machine w words) runs.comes small)
-        (λ same. agrees_on (first_setting e) refl now w.place.index (first_machine w words) small (subst (λ t. Agrees w.notes.now t) same runs.comes.agrees))
+        (comes_on (first_setting e) (first_start e) refl refl call_context.ends runs.made w.place.index asked now (machine_in Making w words) runs.comes small)
+        (λ same. agrees_on (first_setting e) refl now w.place.index (machine_in Making w words) small (subst (λ t. Agrees w.notes.now t) same runs.comes.agrees))
 
     abbrev first_comes : Comes (first_setting e) (first_start e) (suc runs.made) first_end (asked + weighed first_step)
     first_comes = first_followed.comes
@@ -122,16 +122,16 @@ module _ (e : CallContext) (now : ℕ) (w : Workspace) (words : List ℕ) where
     first_within =
         let t : ℕ = runs.comes.time in
         let lt : t < 2 ^ 64 = within_clock w.notes.now t runs.comes.agrees in
-        let before = goes_on (first_setting e) (first_start e) refl refl call_context.ends runs.made w.place.index t (first_machine w words) lt (runs.comes.run t runs.comes.agrees) in
+        let before = goes_on (first_setting e) (first_start e) refl refl call_context.ends runs.made w.place.index t (machine_in Making w words) lt (runs.comes.run t runs.comes.agrees) in
         let budget = (call_context.ends t lt).within in
         omega (arith, before, budget)
 
     first_site : (act : Act) × (site_in e.behavior w First w.place.index ≡ Some act)
-    first_site = found_site (at_time (first_setting e) now) w.place.index (first_machine w words) w.first.registers first_stands.never_bad
+    first_site = found_site (at_time (first_setting e) now) w.place.index (machine_in Making w words) w.first.registers first_stands.never_bad
 
     -- the next statement
     first_next : (index : ℕ) → first_end.outcome ≡ Next index →
-        InFirst e (record (with_first w first_end.machine) { place = at First index }) (Some first_end.machine.words) (suc steps) (asked + weighed first_step)
+        InFirst e (record (with_machine Making w first_end.machine) { place = at First index }) (Some first_end.machine.words) (suc steps) (asked + weighed first_step)
     first_next index next = record {
       is = record { sealed = is.sealed; gate = is.gate };
       second = record { second = second.second; second_log = second.second_log };
@@ -148,11 +148,11 @@ module _ (e : CallContext) (now : ℕ) (w : Workspace) (words : List ℕ) where
     first_goes index next = record {
       act = first_site.0;
       site = first_site.1;
-      workspace = with_first w first_end.machine;
+      workspace = with_machine Making w first_end.machine;
       left = first_end.machine.words;
       to = at First index;
       next = tt;
-      acts = first_acts is.sealed ∙ ap (λ (o : Outcome). honest (first_from (with_first w first_end.machine) first_end.machine.words o)) next;
+      acts = first_acts is.sealed ∙ ap (λ (o : Outcome). honest (pass_from Making (with_machine Making w first_end.machine) first_end.machine.words o)) next;
       want = nothing;
       more = weighed first_step;
       asks = omega (arith, first_asks is.sealed);
@@ -172,7 +172,7 @@ module _ (e : CallContext) (now : ℕ) (w : Workspace) (words : List ℕ) where
     }
 
     first_done : first_end.outcome ≡ Halted →
-        InRestore e (record (closed (with_first w first_end.machine)) { place = at Restore 0 }) (Some first_end.machine.words) (suc steps) (asked + (weighed first_step + 1))
+        InRestore e (record (closed (with_machine Making w first_end.machine)) { place = at Restore 0 }) (Some first_end.machine.words) (suc steps) (asked + (weighed first_step + 1))
     first_done halts = record {
       is = record { sealed = is.sealed; gate = ap risen is.gate };
       time = first_comes.time;
@@ -191,14 +191,14 @@ module _ (e : CallContext) (now : ℕ) (w : Workspace) (words : List ℕ) where
     first_halts halts = record {
       act = first_site.0;
       site = first_site.1;
-      workspace = closed (with_first w first_end.machine);
+      workspace = closed (with_machine Making w first_end.machine);
       left = first_end.machine.words;
       to = at Restore 0;
       next = tt;
       acts =
           first_acts is.sealed
-          ∙ ap (λ (o : Outcome). honest (first_from (with_first w first_end.machine) first_end.machine.words o)) halts
-          ∙ closes_in_step First (with_first w first_end.machine) first_end.machine.words (at Restore 0) is.gate;
+          ∙ ap (λ (o : Outcome). honest (pass_from Making (with_machine Making w first_end.machine) first_end.machine.words o)) halts
+          ∙ closes_in_step First (with_machine Making w first_end.machine) first_end.machine.words (at Restore 0) is.gate;
       want = refl;
       more = weighed first_step + 1;
       asks = first_asks_closing is.sealed halts;
@@ -246,15 +246,15 @@ module _ (e : CallContext) (w : Workspace) (words : List ℕ) (steps asked : ℕ
 
   -- the step of the second pass
   abbrev second_step : Tree After
-  second_step = step_tree (again (first_setting e)) w.place.index (second_machine w words)
+  second_step = step_tree (again (first_setting e)) w.place.index (machine_in Reading w words)
 
   abbrev second_end : After
   second_end = honest second_step
 
-  second_here : second_at h.n ≡ record { machine = second_machine w words; outcome = Next w.place.index }
+  second_here : second_at h.n ≡ record { machine = machine_in Reading w words; outcome = Next w.place.index }
   second_here =
       h.comes
-      ∙ ap (λ (ws : List ℕ). let x : After = record { machine = second_machine w ws; outcome = Next w.place.index } in x) (sym (same_Some words h.words h.lent_are))
+      ∙ ap (λ (ws : List ℕ). let x : After = record { machine = machine_in Reading w ws; outcome = Next w.place.index } in x) (sym (same_Some words h.words h.lent_are))
 
   second_follows : (k : ℕ) → k ≤ h.made → second_at k ≡ renoted_end h.end.notes (first_at k)
   second_follows k le =
@@ -275,7 +275,7 @@ module _ (e : CallContext) (w : Workspace) (words : List ℕ) (steps asked : ℕ
           absurd (halts_or_goes_on (at_time (first_setting e) h.time) (first_start e) (first_at h.n).machine h.end w.place.index h.n h.made le here h.whole.run.halts)
 
   second_one : second_at (suc h.n) ≡ second_end
-  second_one = after_one (again (first_setting e)) (renoted h.end.notes (first_start e)) (second_machine w words) w.place.index h.n second_end second_here refl
+  second_one = after_one (again (first_setting e)) (renoted h.end.notes (first_start e)) (machine_in Reading w words) w.place.index h.n second_end second_here refl
 
   -- one statement more follows the first pass
   second_same : second_end ≡ renoted_end h.end.notes (first_at (suc h.n))
@@ -313,11 +313,11 @@ module _ (e : CallContext) (w : Workspace) (words : List ℕ) (steps asked : ℕ
       omega (arith, still, fewer, timeless)
 
   second_site : (act : Act) × (site_in e.behavior w Second w.place.index ≡ Some act)
-  second_site = found_site (again (first_setting e)) w.place.index (second_machine w words) w.second.registers second_never_bad
+  second_site = found_site (again (first_setting e)) w.place.index (machine_in Reading w words) w.second.registers second_never_bad
 
   -- the next statement
   second_next : (index : ℕ) → second_end.outcome ≡ Next index →
-      InSecond e (record (with_second w second_end.machine) { place = at Second index }) (Some second_end.machine.words) (suc steps) (asked + weighed second_step)
+      InSecond e (record (with_machine Reading w second_end.machine) { place = at Second index }) (Some second_end.machine.words) (suc steps) (asked + weighed second_step)
   second_next index next = record {
     is = record { sealed = h.is.sealed; gate = h.is.gate };
     time = h.time;
@@ -337,7 +337,7 @@ module _ (e : CallContext) (w : Workspace) (words : List ℕ) (steps asked : ℕ
 
   -- both passes have come to the same end
   both_done : second_end.outcome ≡ Halted →
-      InBoth e (record (closed (with_second w second_end.machine)) { place = at Compare 0 }) (Some second_end.machine.words) h.time h.made h.end (asked + (weighed second_step + 1))
+      InBoth e (record (closed (with_machine Reading w second_end.machine)) { place = at Compare 0 }) (Some second_end.machine.words) h.time h.made h.end (asked + (weighed second_step + 1))
   both_done halts = record {
     whole = h.whole;
     first = record { first = h.first.first; first_log = h.first.first_log; notes = second_notes };
@@ -350,7 +350,7 @@ module _ (e : CallContext) (w : Workspace) (words : List ℕ) (steps asked : ℕ
   }
 
   second_done : second_end.outcome ≡ Halted →
-      InCompare e (record (closed (with_second w second_end.machine)) { place = at Compare 0 }) (Some second_end.machine.words) (suc steps) (asked + (weighed second_step + 1))
+      InCompare e (record (closed (with_machine Reading w second_end.machine)) { place = at Compare 0 }) (Some second_end.machine.words) (suc steps) (asked + (weighed second_step + 1))
   second_done halts = record {
     is = record { sealed = h.is.sealed; gate = ap risen h.is.gate };
     time = h.time;
@@ -363,22 +363,22 @@ module _ (e : CallContext) (w : Workspace) (words : List ℕ) (steps asked : ℕ
 
   module _ (now : ℕ) (nothing : w.want ≡ Nothing) where
     -- whatever the clock answers
-    second_is : step_tree (setting_in (given_in e) Reading w.sealed now) w.place.index (second_machine w words) ≡ second_step
+    second_is : step_tree (setting_in (given_in e) Reading w.sealed now) w.place.index (machine_in Reading w words) ≡ second_step
     second_is =
-        ap (λ (s : Sealed). step_tree (setting_in (given_in e) Reading s now) w.place.index (second_machine w words)) h.is.sealed
-        ∙ timeless_again (first_setting e) now w.place.index (second_machine w words)
+        ap (λ (s : Sealed). step_tree (setting_in (given_in e) Reading s now) w.place.index (machine_in Reading w words)) h.is.sealed
+        ∙ timeless_again (first_setting e) now w.place.index (machine_in Reading w words)
 
-    second_acts : honest (act_in (given_in e) now Second w.place.index w words) ≡ honest (second_to w second_end)
+    second_acts : honest (act_in (given_in e) now Second w.place.index w words) ≡ honest (pass_to Reading w second_end)
     second_acts =
-        honest_bound (step_tree (setting_in (given_in e) Reading w.sealed now) w.place.index (second_machine w words)) (second_to w)
-        ∙ ap (λ (tree : Tree After). honest (second_to w (honest tree))) second_is
+        honest_bound (step_tree (setting_in (given_in e) Reading w.sealed now) w.place.index (machine_in Reading w words)) (pass_to Reading w)
+        ∙ ap (λ (tree : Tree After). honest (pass_to Reading w (honest tree))) second_is
 
     second_asks : weighed second_step + asked_behind second_end.outcome ≤ weighed (act_in (given_in e) now Second w.place.index w words)
     second_asks =
-        let all = weighed_bound second_step (second_to w) in
-        let behind = second_behind (with_second w second_end.machine) second_end.machine.words second_end.outcome in
-        let here : weighed second_step + asked_behind second_end.outcome ≤ weighed (bound second_step (second_to w)) = omega (arith, all, behind) in
-        subst (λ (tree : Tree After). weighed second_step + asked_behind second_end.outcome ≤ weighed (bound tree (second_to w))) (sym second_is) here
+        let all = weighed_bound second_step (pass_to Reading w) in
+        let behind = pass_behind Reading (with_machine Reading w second_end.machine) second_end.machine.words second_end.outcome in
+        let here : weighed second_step + asked_behind second_end.outcome ≤ weighed (bound second_step (pass_to Reading w)) = omega (arith, all, behind) in
+        subst (λ (tree : Tree After). weighed second_step + asked_behind second_end.outcome ≤ weighed (bound tree (pass_to Reading w))) (sym second_is) here
 
     second_asks_closing : second_end.outcome ≡ Halted → weighed second_step + 1 ≤ weighed (act_in (given_in e) now Second w.place.index w words)
     second_asks_closing halts = let one : asked_behind second_end.outcome ≡ 1 = ap asked_behind halts in omega (arith, second_asks, one)
@@ -387,11 +387,11 @@ module _ (e : CallContext) (w : Workspace) (words : List ℕ) (steps asked : ℕ
     second_goes index next = record {
       act = second_site.0;
       site = second_site.1;
-      workspace = with_second w second_end.machine;
+      workspace = with_machine Reading w second_end.machine;
       left = second_end.machine.words;
       to = at Second index;
       next = tt;
-      acts = second_acts ∙ ap (λ (o : Outcome). honest (second_from (with_second w second_end.machine) second_end.machine.words o)) next;
+      acts = second_acts ∙ ap (λ (o : Outcome). honest (pass_from Reading (with_machine Reading w second_end.machine) second_end.machine.words o)) next;
       want = nothing;
       more = weighed second_step;
       asks = omega (arith, second_asks);
@@ -402,14 +402,14 @@ module _ (e : CallContext) (w : Workspace) (words : List ℕ) (steps asked : ℕ
     second_halts halts = record {
       act = second_site.0;
       site = second_site.1;
-      workspace = closed (with_second w second_end.machine);
+      workspace = closed (with_machine Reading w second_end.machine);
       left = second_end.machine.words;
       to = at Compare 0;
       next = tt;
       acts =
           second_acts
-          ∙ ap (λ (o : Outcome). honest (second_from (with_second w second_end.machine) second_end.machine.words o)) halts
-          ∙ closes_in_step Second (with_second w second_end.machine) second_end.machine.words (at Compare 0) h.is.gate;
+          ∙ ap (λ (o : Outcome). honest (pass_from Reading (with_machine Reading w second_end.machine) second_end.machine.words o)) halts
+          ∙ closes_in_step Second (with_machine Reading w second_end.machine) second_end.machine.words (at Compare 0) h.is.gate;
       want = refl;
       more = weighed second_step + 1;
       asks = second_asks_closing halts;

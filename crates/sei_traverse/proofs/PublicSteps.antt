@@ -1,18 +1,14 @@
 -- What holds of one step of the definition, whatever the core answers.
-use Rattle.std.proofs.Common.{◌≡◌, ℕ, ◌+◌, ◌≤◌, List, Option}
+use Rattle.std.proofs.Common.{◌≡◌, ℕ, List, Option}
 use Rattle.sei_fault.specs.Counts.{Counts, Answered}
 use Rattle.sei_fault.specs.Question.{Question, Answer, honestly_to}
 use Rattle.sei_words.specs.LentBucket.{words_of, bucket_of}
 use Rattle.sei_stmt.specs.Handling.{Behavior}
 use Rattle.sei_traverse.specs.declared.turned.State.{State}
-use Rattle.sei_traverse.specs.Bounds.{StepsWithin, StepsAfter}
-use Rattle.sei_traverse.specs.CallContext.{CallContext, IsCallContext}
-use Rattle.sei_traverse.specs.FaultInvariant.{FaultInvariant, LendsWanted, Isolates}
 use Rattle.sei_traverse.specs.Given.{given_of}
-use Rattle.sei_traverse.specs.OnWay.{lent_words, Lends, TellsAs, OnWay, StaysOnWay}
+use Rattle.sei_traverse.specs.Promises.{KeepsBound, KeepsOnWay, KeepsIsolated, turned_at}
 use Rattle.sei_traverse.specs.Running.{On, StepsTo}
 use Rattle.sei_traverse.specs.State.{IsTraversal}
-use Rattle.sei_traverse.specs.Trusted.{IsTrusted}
 use Rattle.sei_traverse.proofs.Isolated.{isolates_one}
 use Rattle.sei_traverse.proofs.Onward.{stays_on_way_given}
 use Rattle.sei_traverse.proofs.StepsBound.{steps_after_turned}
@@ -21,23 +17,19 @@ module _ {S : Type 0} (gives : S → (q : Question) → Answer q → S → Type 
     (law : (s : S) (q : Question) (a : Answer q) (t : S) → gives s q a t → Answered (a ≡ honestly_to q) (counts s) (counts t))
     (told : Option ℕ) (behavior : Behavior) (input : List ℕ) (x y : On S) (state : State) (step : StepsTo gives told behavior input x y state) where
   -- one strike is isolated
-  pub step_isolates : (e : CallContext) (begin : Counts) → IsTrusted e → TellsAs e.clock told → e.behavior ≡ behavior → e.input ≡ input →
-      LendsWanted x.traversal.workspace x.lent → FaultInvariant e x.traversal (lent_words x.lent) begin (counts x.core) → (counts y.core).struck ≤ begin.struck + 1 →
-      Isolates e x.traversal y.traversal x.lent y.lent begin (counts y.core) y.traversal.workspace.want state
-  step_isolates e begin trusted tells same_behavior same_input lends facts few =
+  pub step_isolates : KeepsIsolated counts told behavior input x y (turned_at y state)
+  step_isolates = λ e begin trusted tells same_behavior same_input lends facts few.
       isolates_one gives counts law told e begin x.traversal y.traversal x.lent y.lent state x.core y.core behavior input same_behavior same_input
       step.turned step.lent step.space step.steps step.sealed trusted tells lends facts few
 
   -- with one strike at most, the number of steps stays bounded
-  pub step_within : (begin : Counts) → IsTraversal x.traversal → StepsWithin x.traversal begin (counts x.core) → StepsAfter y.traversal begin (counts y.core) state
-  step_within begin is within =
+  pub step_within : IsTraversal x.traversal → KeepsBound counts x y (turned_at y state)
+  step_within is = λ begin within.
       steps_after_turned gives counts law told (given_of behavior input x.traversal.space (bucket_of x.lent)) (words_of x.lent) (words_of y.lent) begin x.traversal y.traversal state x.core y.core
       step.turned is step.space step.steps within
 
   -- a traversal that is on its way stays on it
-  pub step_on_way : (e : CallContext) (begin : Counts) → IsCallContext e → TellsAs e.clock told → e.behavior ≡ behavior → e.input ≡ input →
-      Lends e x.traversal.workspace.place.phase x.lent → OnWay e x.traversal (lent_words x.lent) begin (counts x.core) →
-      StaysOnWay e x.traversal y.traversal (lent_words y.lent) begin (counts y.core) y.traversal.workspace.want state
-  step_on_way e begin call_context tells same_behavior same_input lends way =
+  pub step_on_way : KeepsOnWay counts told behavior input x y (turned_at y state)
+  step_on_way = λ e begin call_context tells same_behavior same_input lends way.
       stays_on_way_given gives counts law told e begin x.traversal y.traversal x.lent y.lent state x.core y.core behavior input same_behavior same_input
       step.turned step.lent step.space step.steps call_context tells lends way

@@ -24,8 +24,8 @@ use Rattle.sei_stmt.specs.Machine.{Machine, Setting, Outcome, After, one_made}
 use Rattle.sei_stmt.specs.Machine.Outcome.{Next, Halted, Bad}
 use Rattle.sei_stmt.specs.Statements.{statement_tree, step_tree}
 use Rattle.sei_stmt.proofs.PublicStatementEnds.{by_statement}
+use Rattle.sei_pass.specs.declared.given.Which.{Which}
 use Rattle.sei_pass.specs.declared.given.Which.TheVariants.{Making, Reading}
-use Rattle.sei_pass.specs.declared.given.Sealed.{Sealed}
 use Rattle.sei_pass.specs.Setting.{sealed_call}
 use Rattle.sei_pass.specs.State.{PassState, IsPass}
 use Rattle.sei_pass.proofs.Public.{Keeps, keeps}
@@ -36,12 +36,12 @@ use Rattle.sei_traverse.specs.declared.turned.Want.TheVariants.{Nothing, Take as
 use Rattle.sei_traverse.specs.declared.workspace.Ending.{Ending}
 use Rattle.sei_traverse.specs.declared.workspace.Ending.TheVariants.{Leads, Refuses, Aborts}
 use Rattle.sei_traverse.specs.declared.workspace.Workspace.{Workspace}
-use Rattle.sei_traverse.specs.Acts.{Acted, ends, at, closed_to, closing_then, closes}
-use Rattle.sei_traverse.specs.PassActs.{pass_of, first_machine, second_machine, with_first, with_second, first_from, first_to, first_tree, second_from, second_to, second_tree}
+use Rattle.sei_traverse.specs.Acts.{Acted, ends, at, closed_to, closing_then, closes, next_phase}
+use Rattle.sei_traverse.specs.PassActs.{pass_of, pass_phase, machine_in, with_machine, pass_from, pass_to, pass_tree}
 use Rattle.sei_traverse.specs.Phases.{guard_call, store_wanted, take_wanted, undone_as, undone_to, compared, entries_to, outputs_to, word_to, reply_of, copy_bytes, wire_to, verify_copy, send_want}
 use Rattle.sei_traverse.specs.Given.{Given, setting_in}
 use Rattle.sei_traverse.specs.Step.{StepResult, act_in, act_tree, site_of, skipped, goes, goes_on, once, unless_ended, twice, step_as, step_at, traversal_step}
-use Rattle.sei_traverse.specs.Workspaces.{IsWorkspace}
+use Rattle.sei_traverse.specs.Workspaces.{IsWorkspace, FitsIn}
 use Rattle.sei_traverse.proofs.StepsBound.{always_bound, always_any}
 use Rattle.sei_traverse.proofs.WordsLast.{Lasts, lasts}
 
@@ -86,10 +86,6 @@ ran_step s i m = by_statement s i m (Always (Ran (parsed_words s.parsed) s.budge
       words = l;
     })
     (keeps s i from st) (lasts s i from st))
-
--- the input words of the sealed call go in
-abbrev pub FitsIn : PassSpace → (ℕ → Option Parsed) → Sealed → Type 0
-FitsIn k parsed sealed = length (parsed_words (sealed_call parsed sealed.nth)) ≤ k.input
 
 -- a workspace and the words behind another one, in this space and for these calls
 pub record KeepsWorkspace (k : PassSpace) (parsed : ℕ → Option Parsed) (w : Workspace) (words : List ℕ) (v : Workspace) (left : List ℕ) : Type 0 where
@@ -162,12 +158,12 @@ module _ (k : PassSpace) (parsed : ℕ → Option Parsed) where
     input_fits = r.input_fits (subst (λ (l : Kept ℕ). length given ≤ l.room) (sym input) (omega (arith, few, h.input))) (subst (λ (l : Kept ℕ). length l.items ≤ l.room) (sym input) h.input_fits);
   }
 
-  first_kept : (w : Workspace) (words : List ℕ) (x : After) → Ran (parsed_words (sealed_call parsed w.sealed.nth)) k.budget (first_machine w words) x → KeepsWorkspace k parsed w words (with_first w x.machine) x.machine.words
-  first_kept w words x r = record {
+  pass_is_kept : (which : Which) (w : Workspace) (words : List ℕ) (x : After) → Ran (parsed_words (sealed_call parsed w.sealed.nth)) k.budget (machine_in which w words) x → KeepsWorkspace k parsed w words (with_machine which w x.machine) x.machine.words
+  pass_is_kept Making w words x r = record {
     sealed = refl;
     space = refl;
     workspace = λ is here few. record {
-      first = pass_kept w.first (first_machine w words) (parsed_words (sealed_call parsed w.sealed.nth)) k.budget x
+      first = pass_kept w.first (machine_in Making w words) (parsed_words (sealed_call parsed w.sealed.nth)) k.budget x
           (subst (λ (q : PassSpace). length (parsed_words (sealed_call parsed w.sealed.nth)) ≤ q.input) (sym here) few) (ap (λ (s : PassSpace). s.budget) (sym here)) r refl refl refl refl refl is.first;
       second = is.second;
       same = is.same;
@@ -180,14 +176,12 @@ module _ (k : PassSpace) (parsed : ℕ → Option Parsed) where
     };
     long = r.words;
   }
-
-  second_kept : (w : Workspace) (words : List ℕ) (x : After) → Ran (parsed_words (sealed_call parsed w.sealed.nth)) k.budget (second_machine w words) x → KeepsWorkspace k parsed w words (with_second w x.machine) x.machine.words
-  second_kept w words x r = record {
+  pass_is_kept Reading w words x r = record {
     sealed = refl;
     space = refl;
     workspace = λ is here few. record {
       first = is.first;
-      second = pass_kept w.second (second_machine w words) (parsed_words (sealed_call parsed w.sealed.nth)) k.budget x
+      second = pass_kept w.second (machine_in Reading w words) (parsed_words (sealed_call parsed w.sealed.nth)) k.budget x
           (subst (λ (q : PassSpace). length (parsed_words (sealed_call parsed w.sealed.nth)) ≤ q.input) (sym (is.same ∙ here)) few) (ap (λ (s : PassSpace). s.budget) (sym (is.same ∙ here))) r refl refl refl refl refl is.second;
       same = is.same;
       first_log = is.first_log;
@@ -242,31 +236,18 @@ module _ (k : PassSpace) (parsed : ℕ → Option Parsed) where
     kept_take g words long true = λ b wanted. so (record w { wanted = wanted }) words refl refl refl refl refl refl long
     kept_take g words long false = λ yes. take_closed g words long yes
 
-    first_onward : (v : Workspace) (words : List ℕ) (o : Outcome) → KeepsWorkspace k parsed w before v words → Always KeptBy (first_from v words o)
-    first_onward v words (Next i) h = h
-    first_onward v words Halted h = kept_closes First v words Nothing (at Restore 0) h
-    first_onward v words (Bad cause) h = h
+    pass_onward : (which : Which) (v : Workspace) (words : List ℕ) (o : Outcome) → KeepsWorkspace k parsed w before v words → Always KeptBy (pass_from which v words o)
+    pass_onward which v words (Next i) h = h
+    pass_onward which v words Halted h = kept_closes (pass_phase which) v words Nothing (at (next_phase (pass_phase which)) 0) h
+    pass_onward which v words (Bad cause) h = h
 
-    second_onward : (v : Workspace) (words : List ℕ) (o : Outcome) → KeepsWorkspace k parsed w before v words → Always KeptBy (second_from v words o)
-    second_onward v words (Next i) h = h
-    second_onward v words Halted h = kept_closes Second v words Nothing (at Compare 0) h
-    second_onward v words (Bad cause) h = h
-
-    kept_first : (g : Given) (now index : ℕ) (words : List ℕ) → g.space ≡ k → g.behavior.parsed g.input ≡ parsed → length words ≡ length before → Always KeptBy (first_tree g now index w words)
-    kept_first g now index words is of long =
-        let s : Setting = setting_in g Making w.sealed now in
-        always_bound (Ran (parsed_words (sealed_call parsed w.sealed.nth)) k.budget (first_machine w words)) KeptBy (step_tree s index (first_machine w words)) (first_to w)
-        (λ x r. first_onward (with_first w x.machine) x.machine.words x.outcome (behind w w _ before words _ (same words long) (first_kept w words x r)))
-        (subst (λ (f : ℕ → Option Parsed). Always (Ran (parsed_words (sealed_call f w.sealed.nth)) k.budget (first_machine w words)) (step_tree s index (first_machine w words))) of
-        (subst (λ (b : ℕ). Always (Ran (parsed_words s.parsed) b (first_machine w words)) (step_tree s index (first_machine w words))) (ap (λ (s : PassSpace). s.budget) is) (ran_step s index (first_machine w words))))
-
-    kept_second : (g : Given) (now index : ℕ) (words : List ℕ) → g.space ≡ k → g.behavior.parsed g.input ≡ parsed → length words ≡ length before → Always KeptBy (second_tree g now index w words)
-    kept_second g now index words is of long =
-        let s : Setting = setting_in g Reading w.sealed now in
-        always_bound (Ran (parsed_words (sealed_call parsed w.sealed.nth)) k.budget (second_machine w words)) KeptBy (step_tree s index (second_machine w words)) (second_to w)
-        (λ x r. second_onward (with_second w x.machine) x.machine.words x.outcome (behind w w _ before words _ (same words long) (second_kept w words x r)))
-        (subst (λ (f : ℕ → Option Parsed). Always (Ran (parsed_words (sealed_call f w.sealed.nth)) k.budget (second_machine w words)) (step_tree s index (second_machine w words))) of
-        (subst (λ (b : ℕ). Always (Ran (parsed_words s.parsed) b (second_machine w words)) (step_tree s index (second_machine w words))) (ap (λ (s : PassSpace). s.budget) is) (ran_step s index (second_machine w words))))
+    kept_pass : (which : Which) (g : Given) (now index : ℕ) (words : List ℕ) → g.space ≡ k → g.behavior.parsed g.input ≡ parsed → length words ≡ length before → Always KeptBy (pass_tree which g now index w words)
+    kept_pass which g now index words is of long =
+        let s : Setting = setting_in g which w.sealed now in
+        always_bound (Ran (parsed_words (sealed_call parsed w.sealed.nth)) k.budget (machine_in which w words)) KeptBy (step_tree s index (machine_in which w words)) (pass_to which w)
+        (λ x r. pass_onward which (with_machine which w x.machine) x.machine.words x.outcome (behind w w _ before words _ (same words long) (pass_is_kept which w words x r)))
+        (subst (λ (f : ℕ → Option Parsed). Always (Ran (parsed_words (sealed_call f w.sealed.nth)) k.budget (machine_in which w words)) (step_tree s index (machine_in which w words))) of
+        (subst (λ (b : ℕ). Always (Ran (parsed_words s.parsed) b (machine_in which w words)) (step_tree s index (machine_in which w words))) (ap (λ (s : PassSpace). s.budget) is) (ran_step s index (machine_in which w words))))
 
     -- undoing leaves as many words
     undo_word_long : (words : List ℕ) (a was : ℕ) (o : Option ℕ) → Always (λ (u : Undone). length u.words ≡ length words) (undo_word words a was o)
@@ -332,9 +313,9 @@ module _ (k : PassSpace) (parsed : ℕ → Option Parsed) where
     kept_act : (g : Given) (now : ℕ) (phase : Phase) (index : ℕ) (words : List ℕ) → g.space ≡ k → g.behavior.parsed g.input ≡ parsed → length words ≡ length before → Always KeptBy (act_in g now phase index w words)
     kept_act g now Guard index words is of long = λ yes. kept_guard g words long yes
     kept_act g now Take index words is of long = kept_take g words long (index == 0)
-    kept_act g now First index words is of long = kept_first g now index words is of long
+    kept_act g now First index words is of long = kept_pass Making g now index words is of long
     kept_act g now Restore index words is of long = kept_restore index words long (nat_lt index (length w.first_log.items))
-    kept_act g now Second index words is of long = kept_second g now index words is of long
+    kept_act g now Second index words is of long = kept_pass Reading g now index words is of long
     kept_act g now Compare index words is of long = kept_compare index words long (nat_lt index (compared w))
     kept_act g now Verify index words is of long = kept_verify index words long (nat_lt index (length w.second_log.items))
     kept_act g now Enter index words is of long = kept_closes Enter w words WantEnter (at Give 0) (same words long)
@@ -373,7 +354,7 @@ module _ (k : PassSpace) (parsed : ℕ → Option Parsed) where
     times_kept now later v words act Skip h = goes_kept v words (skipped v act) h
     times_kept now later v words act Twice h = twice_kept now later v words h
 
-    step_at_kept : (now later : ℕ) (v : Workspace) (words : List ℕ) (o : Option Act) → KeepsWorkspace k parsed w before v words → Always KeptOn (step_at g now later v words o)
+    step_at_kept : (now later : ℕ) (v : Workspace) (words : List ℕ) (o : Option Act) → KeepsWorkspace k parsed w before v words → Always KeptOn (step_at o g now later v words)
     step_at_kept now later v words None h = h
     step_at_kept now later v words (Some act) h = λ times. times_kept now later v words act times h
 

@@ -9,10 +9,10 @@ use Rattle.sei_pass.proofs.Public.{some_answer}
 use Rattle.sei_traverse.specs.declared.turned.Want.TheVariants.{Nothing}
 use Rattle.sei_traverse.specs.declared.workspace.Ending.{Ending}
 use Rattle.sei_traverse.specs.declared.workspace.Workspace.{Workspace}
-use Rattle.sei_traverse.specs.Acts.{acted, at, closes}
+use Rattle.sei_traverse.specs.Acts.{acted, at, closes, next_phase}
 use Rattle.sei_traverse.specs.Running.{rest}
 use Rattle.sei_traverse.specs.Given.{Given}
-use Rattle.sei_traverse.specs.Step.{StepResult, next_phase, goes_from, goes_on, TimedTwice}
+use Rattle.sei_traverse.specs.Step.{StepResult, goes_from, goes_on, TimedTwice}
 
 module _ {S : Type 0} (gives : S → (q : Question) → Answer q → S → Type 0) (w : Workspace) (words : List ℕ) where
   -- the phase is closed, and the step goes on to the next one
@@ -24,9 +24,9 @@ module _ {S : Type 0} (gives : S → (q : Question) → Answer q → S → Type 
 
   module _ (told : Option ℕ) (g : Given) (exit : Exit) (s t : S) (y : StepResult) where
     -- the loop left the step so
-    pub rest_is : (other : Exit) → exit ≡ other → TimedTwice gives told (λ now later. rest g now later w words other) s t y → TimedTwice gives told (λ now later. rest g now later w words exit) s t y
-    rest_is other e r = subst (λ (x : Exit). TimedTwice gives told (λ now later. rest g now later w words x) s t y) (sym e) r
+    pub rest_is : (other : Exit) → exit ≡ other → TimedTwice gives told (λ now later. rest other g now later w words) s t y → TimedTwice gives told (λ now later. rest exit g now later w words) s t y
+    rest_is other e r = subst (λ (x : Exit). TimedTwice gives told (λ now later. rest x g now later w words) s t y) (sym e) r
 
     -- and what is left does not look at the clock
-    pub rest_plain : (other : Exit) → exit ≡ other → ((now later : ℕ) → Runs gives (rest g now later w words other) s t y) → TimedTwice gives told (λ now later. rest g now later w words exit) s t y
+    pub rest_plain : (other : Exit) → exit ≡ other → ((now later : ℕ) → Runs gives (rest other g now later w words) s t y) → TimedTwice gives told (λ now later. rest exit g now later w words) s t y
     rest_plain other e r = let a = some_answer told in rest_is other e (record { now = a.0; later = a.0; answer = a.1; answer_later = a.1; runs = r a.0 a.0 })

@@ -18,11 +18,11 @@ use Rattle.sei_traverse.specs.declared.workspace.Ending.TheVariants.{Leads, Refu
 use Rattle.sei_traverse.specs.declared.workspace.Workspace.{Workspace}
 use Rattle.sei_traverse.specs.Acts.{Acted, at}
 use Rattle.sei_traverse.specs.CallContext.{CallContext}
-use Rattle.sei_traverse.specs.FaultInvariant.{Knows, StruckCase, Wanted, closing_want, IsAborted}
+use Rattle.sei_traverse.specs.FaultInvariant.{Knows, StruckCase, Wanted, IsAborted}
 use Rattle.sei_traverse.proofs.ClosesNext.{ClosesNext}
 use Rattle.sei_traverse.specs.FaultInvariant.StruckCase.{Right, Lost}
 use Rattle.sei_traverse.proofs.ClosesNext.ClosesNext.{Stays, Closes, Lacks}
-use Rattle.sei_traverse.specs.Phases.{send_want}
+use Rattle.sei_traverse.specs.Phases.{send_want, closing_want}
 use Rattle.sei_traverse.specs.Step.{StepResult, step_result, aborted, is_end, arrival, goes_from, goes_on}
 use Rattle.sei_traverse.specs.Struck.{IsAimed, HasCopyOfSome, StruckIn}
 use Rattle.sei_traverse.specs.Trusted.{PassesGuard}

@@ -27,11 +27,11 @@ use Rattle.sei_traverse.specs.declared.workspace.Ending.TheVariants.{Leads, Refu
 use Rattle.sei_traverse.specs.declared.workspace.Workspace.{Workspace}
 use Rattle.sei_traverse.specs.Acts.{Acted, acted, ends, at, closes}
 use Rattle.sei_traverse.specs.CallContext.{CallContext, IsCallContext, Follows, given_in}
-use Rattle.sei_traverse.specs.FaultInvariant.{Knows, Wanted, closing_want, IsUnfitInput}
+use Rattle.sei_traverse.specs.FaultInvariant.{Knows, Wanted, IsUnfitInput}
 use Rattle.sei_traverse.proofs.ClosesNext.{ClosesNext}
 use Rattle.sei_traverse.proofs.ClosesNext.ClosesNext.{Stays, Closes}
 use Rattle.sei_traverse.specs.OnWay.{lent_words, LendsBucket, Lends, LendsBucketOf, LendsIn}
-use Rattle.sei_traverse.specs.Phases.{reply_of, send_want, done_tree}
+use Rattle.sei_traverse.specs.Phases.{reply_of, send_want, closing_tree, closing_want}
 use Rattle.sei_traverse.specs.Given.{Given, given_of, has_sealed_call}
 use Rattle.sei_traverse.specs.Step.{act_in, site_in}
 use Rattle.sei_traverse.specs.Struck.{IsAimed, IsHonestResult, On, HasCopyOfSome, StruckIn}
@@ -199,9 +199,9 @@ wants_kind e w Done = Quiet refl (λ v. refl)
 pub never_on : (g : Given) (clock : ℕ) (p : Phase) (index : ℕ) (w : Workspace) (words : List ℕ) → w.gate.done ≢ phase_number p → p ≡ Done → (to : Place) → (honest (act_in g clock p index w words)).ending ≡ Leads to → ⊥
 never_on g clock p index w words gate last to leads =
     let wrong : (w.gate.done ≡ 10 → ⊥) = λ same. gate (same ∙ ap phase_number (sym last)) in
-    let aborts : (honest (done_tree w words)).ending ≡ Aborts (Gate w.gate.done) =
+    let aborts : (honest (closing_tree Done w words)).ending ≡ Aborts (Gate w.gate.done) =
     ap (λ (b : Bool). (honest (closed_or w words b)).ending) (other w.gate.done 10 wrong) in
-    let on : (honest (done_tree w words)).ending ≡ Leads to = subst (λ (q : Phase). (honest (act_in g clock q index w words)).ending ≡ Leads to) last leads in
+    let on : (honest (closing_tree Done w words)).ending ≡ Leads to = subst (λ (q : Phase). (honest (act_in g clock q index w words)).ending ≡ Leads to) last leads in
     let clash : Aborts (Gate w.gate.done) ≡ Leads to = sym aborts ∙ on in
     let z : ⊥ = cc in z
   where

@@ -55,15 +55,15 @@ module _ {S : Type 0} (gives : S → (q : Question) → Answer q → S → Type 
   still v left e s t y r = let a = some_answer told in record { now = a.0; answer = a.1; runs = r a.0 }
 
   pub step_skip : (act : Act) (s m t : S) (y : StepResult) → gives s (Often (record { place = w.place; act = act })) Skip m →
-      Runs gives (goes w words (skipped w act)) m t y → TimedTwice gives told (λ now later. step_at g now later w words (Some act)) s t y
+      Runs gives (goes w words (skipped w act)) m t y → TimedTwice gives told (λ now later. step_at (Some act) g now later w words) s t y
   step_skip act s m t y h r =
       let a = some_answer told in
       record { now = a.0; later = a.0; answer = a.1; answer_later = a.1; runs = (Skip, m, h, r) }
 
   -- the place has this site, or none
-  pub at_site : (o site : Option Act) (s t : S) (y : StepResult) → o ≡ site → TimedTwice gives told (λ now later. step_at g now later w words o) s t y →
-      TimedTwice gives told (λ now later. step_at g now later w words site) s t y
-  at_site o site s t y e r = subst (λ (a : Option Act). TimedTwice gives told (λ now later. step_at g now later w words a) s t y) e r
+  pub at_site : (o site : Option Act) (s t : S) (y : StepResult) → o ≡ site → TimedTwice gives told (λ now later. step_at o g now later w words) s t y →
+      TimedTwice gives told (λ now later. step_at site g now later w words) s t y
+  at_site o site s t y e r = subst (λ (a : Option Act). TimedTwice gives told (λ now later. step_at a g now later w words) s t y) e r
 
-  pub no_clock : (o : Option Act) (s t : S) (y : StepResult) → ((now later : ℕ) → Runs gives (step_at g now later w words o) s t y) → TimedTwice gives told (λ now later. step_at g now later w words o) s t y
+  pub no_clock : (o : Option Act) (s t : S) (y : StepResult) → ((now later : ℕ) → Runs gives (step_at o g now later w words) s t y) → TimedTwice gives told (λ now later. step_at o g now later w words) s t y
   no_clock o s t y r = let a = some_answer told in record { now = a.0; later = a.0; answer = a.1; answer_later = a.1; runs = r a.0 a.0 }

@@ -24,6 +24,7 @@ use Rattle.sei_stmt.specs.Machine.Outcome.{Next, Halted, Bad}
 use Rattle.sei_stmt.specs.Statements.{statement_tree, step_tree}
 use Rattle.sei_stmt.proofs.PublicStatementEnds.{by_statement}
 use Rattle.sei_stmt.proofs.Public.{IsGoing}
+use Rattle.sei_pass.specs.declared.given.Which.{Which}
 use Rattle.sei_pass.specs.declared.given.Which.TheVariants.{Making, Reading}
 use Rattle.sei_pass.proofs.Public.{Keeps, keeps}
 use Rattle.sei_restore.specs.Undoing.{undo_at}
@@ -37,7 +38,7 @@ use Rattle.sei_traverse.specs.declared.workspace.Ending.TheVariants.{Leads, Refu
 use Rattle.sei_traverse.specs.declared.workspace.Workspace.{Workspace}
 use Rattle.sei_traverse.specs.Acts.{Acted, acted, ends, at, closed_to, closing_then, closes}
 use Rattle.sei_traverse.specs.Bounds.{place_number, last_number, made_by, reached, most_steps, StepsWithin, StepsAfter}
-use Rattle.sei_traverse.specs.PassActs.{first_machine, second_machine, with_first, with_second, first_from, first_to, first_tree, second_from, second_to, second_tree}
+use Rattle.sei_traverse.specs.PassActs.{pass_phase, pass_in, machine_in, with_machine, pass_from, pass_to, pass_tree}
 use Rattle.sei_traverse.specs.Phases.{guard_call, store_wanted, take_wanted, undone_as, undone_to, compared, entries_to, outputs_to, word_to, reply_of, copy_bytes, wire_to, verify_copy, send_want}
 use Rattle.sei_traverse.specs.Given.{Given, setting_in}
 use Rattle.sei_traverse.specs.State.{TraversalState, IsTraversal, begun_traversal, one_more}
@@ -138,29 +139,26 @@ step_up s i m = by_statement s i m (Always (CountsOn m)) (λ cause. record { mad
     (λ st e b. always_map (λ (x : After). Keeps (parsed_words s.parsed) (one_made m) x.machine) (CountsOn m) (statement_tree s i (one_made m) st)
     (λ x k. record { made = omega (arith, k.made); going = λ go. k.made }) (keeps s i (one_made m) st))
 
-first_onward : (k : PassSpace) (index : ℕ) (w v : Workspace) (words : List ℕ) (o : Outcome) → made_by w ≤ made_by v → (IsGoing o → made_by v ≡ made_by w + 1) → Always (Climbs k w First index) (first_from v words o)
-first_onward k index w v words (Next i) le going = leads_up k w First index v words (at First i) le (λ f onward. omega (arith, going tt))
-first_onward k index w v words Halted le going = closes_up k w First index First v words Nothing (at Restore 0) le (λ f onward. omega (arith, going tt))
-first_onward k index w v words (Bad cause) le going = aborts_up k w First index v words cause le
+pass_onward : (k : PassSpace) (index : ℕ) (which : Which) (w v : Workspace) (words : List ℕ) (o : Outcome) → made_by w ≤ made_by v → (IsGoing o → made_by v ≡ made_by w + 1) →
+    Always (Climbs k w (pass_phase which) index) (pass_from which v words o)
+pass_onward k index Making w v words (Next i) le going = leads_up k w First index v words (at First i) le (λ f onward. omega (arith, going tt))
+pass_onward k index Making w v words Halted le going = closes_up k w First index First v words Nothing (at Restore 0) le (λ f onward. omega (arith, going tt))
+pass_onward k index Reading w v words (Next i) le going = leads_up k w Second index v words (at Second i) le (λ f onward. omega (arith, going tt))
+pass_onward k index Reading w v words Halted le going = closes_up k w Second index Second v words Nothing (at Compare 0) le (λ f onward. omega (arith, going tt))
+pass_onward k index which w v words (Bad cause) le going = aborts_up k w (pass_phase which) index v words cause le
 
-first_up : (k : PassSpace) (g : Given) (now index : ℕ) (w : Workspace) (words : List ℕ) → Always (Climbs k w First index) (first_tree g now index w words)
-first_up k g now index w words =
-    let s : Setting = setting_in g Making w.sealed now in
-    always_bound (CountsOn (first_machine w words)) (Climbs k w First index) (step_tree s index (first_machine w words)) (first_to w)
-    (λ x h. first_onward k index w (with_first w x.machine) x.machine.words x.outcome (omega (arith, h.made)) (λ go. let one = h.going go in omega (arith, one)))
-    (step_up s index (first_machine w words))
+-- as many more as the machine made
+made_with : (which : Which) (w : Workspace) (m : Machine) → made_by (with_machine which w m) + (pass_in which w).made ≡ made_by w + m.made
+made_with Making w m = omega arith
+made_with Reading w m = omega arith
 
-second_onward : (k : PassSpace) (index : ℕ) (w v : Workspace) (words : List ℕ) (o : Outcome) → made_by w ≤ made_by v → (IsGoing o → made_by v ≡ made_by w + 1) → Always (Climbs k w Second index) (second_from v words o)
-second_onward k index w v words (Next i) le going = leads_up k w Second index v words (at Second i) le (λ f onward. omega (arith, going tt))
-second_onward k index w v words Halted le going = closes_up k w Second index Second v words Nothing (at Compare 0) le (λ f onward. omega (arith, going tt))
-second_onward k index w v words (Bad cause) le going = aborts_up k w Second index v words cause le
-
-second_up : (k : PassSpace) (g : Given) (now index : ℕ) (w : Workspace) (words : List ℕ) → Always (Climbs k w Second index) (second_tree g now index w words)
-second_up k g now index w words =
-    let s : Setting = setting_in g Reading w.sealed now in
-    always_bound (CountsOn (second_machine w words)) (Climbs k w Second index) (step_tree s index (second_machine w words)) (second_to w)
-    (λ x h. second_onward k index w (with_second w x.machine) x.machine.words x.outcome (omega (arith, h.made)) (λ go. let one = h.going go in omega (arith, one)))
-    (step_up s index (second_machine w words))
+pass_up : (which : Which) (k : PassSpace) (g : Given) (now index : ℕ) (w : Workspace) (words : List ℕ) → Always (Climbs k w (pass_phase which) index) (pass_tree which g now index w words)
+pass_up which k g now index w words =
+    let s : Setting = setting_in g which w.sealed now in
+    always_bound (CountsOn (machine_in which w words)) (Climbs k w (pass_phase which) index) (step_tree s index (machine_in which w words)) (pass_to which w)
+    (λ x h. let more = made_with which w x.machine in
+    pass_onward k index which w (with_machine which w x.machine) x.machine.words x.outcome (omega (arith, h.made, more)) (λ go. let one = h.going go in omega (arith, one, more)))
+    (step_up s index (machine_in which w words))
 
 -- Restore and Compare
 
@@ -226,9 +224,9 @@ verify_up k index w words false e = behind_words k index w words (index == lengt
 act_up : (k : PassSpace) (g : Given) (now : ℕ) (phase : Phase) (index : ℕ) (w : Workspace) (words : List ℕ) → Always (Climbs k w phase index) (act_in g now phase index w words)
 act_up k g now Guard index w words = λ yes. guard_up k g index w words yes
 act_up k g now Take index w words = take_up k g index w words (index == 0) refl
-act_up k g now First index w words = first_up k g now index w words
+act_up k g now First index w words = pass_up Making k g now index w words
 act_up k g now Restore index w words = restore_up k index w words (nat_lt index (length w.first_log.items)) refl
-act_up k g now Second index w words = second_up k g now index w words
+act_up k g now Second index w words = pass_up Reading k g now index w words
 act_up k g now Compare index w words = compare_up k index w words (nat_lt index (compared w)) refl
 act_up k g now Verify index w words = verify_up k index w words (nat_lt index (length w.second_log.items)) refl
 act_up k g now Enter index w words = closes_up k w Enter index Enter w words WantEnter (at Give 0) (same_made w) (λ f onward. omega arith)
@@ -264,7 +262,7 @@ times_made g now later w words act Once = once_made g now w w words (same_made w
 times_made g now later w words act Skip = λ p. same_made w
 times_made g now later w words act Twice = twice_made g now later w words
 
-step_result_made : (g : Given) (now later : ℕ) (w : Workspace) (words : List ℕ) (o : Option Act) → Always (Remade w) (step_at g now later w words o)
+step_result_made : (g : Given) (now later : ℕ) (w : Workspace) (words : List ℕ) (o : Option Act) → Always (Remade w) (step_at o g now later w words)
 step_result_made g now later w words None = same_made w
 step_result_made g now later w words (Some act) = λ times. times_made g now later w words act times
 
@@ -284,7 +282,7 @@ ending_up k n v words (Aborts cause) onto h = absurd cc
 
 -- an honest step that goes on comes further
 site_up : (k : PassSpace) (g : Given) (now later : ℕ) (w : Workspace) (words : List ℕ) (o : Option Act) → Fits k w →
-    (honest (step_at g now later w words o)).state ≡ Went → reached k w < reached k (honest (step_at g now later w words o)).workspace
+    (honest (step_at o g now later w words)).state ≡ Went → reached k w < reached k (honest (step_at o g now later w words)).workspace
 site_up k g now later w words None fits h = absurd cc
 site_up k g now later w words (Some act) fits h =
     let y : Acted = honest (act_tree g now w words) in

@@ -9,7 +9,7 @@ use Rattle.sei_fault.specs.declared.place.Phase.TheVariants.{Guard, Take, First,
 use Rattle.sei_fault.specs.declared.place.Place.{Place}
 use Rattle.sei_fault.specs.Phases.{phase_number}
 use Rattle.sei_fault.specs.StruckRuns.{StruckRun}
-use Rattle.sei_fault.specs.Tree.{Tree, Always}
+use Rattle.sei_fault.specs.Tree.{Tree, Always, honest}
 use Rattle.sei_fault.specs.Weights.{weighed}
 use Rattle.sei_fault.proofs.Public.{always_honest, always_struck}
 use Rattle.sei_gate.specs.Closing.{risen}
@@ -22,12 +22,12 @@ use Rattle.sei_traverse.specs.declared.workspace.Ending.TheVariants.{Leads, Refu
 use Rattle.sei_traverse.specs.declared.workspace.Workspace.{Workspace}
 use Rattle.sei_traverse.specs.Acts.{Acted, acted, ends, at, closed_to, closing_then, closes}
 use Rattle.sei_traverse.specs.CallContext.{CallContext, Follows}
-use Rattle.sei_traverse.specs.FaultInvariant.{Knows, Wanted, closing_want}
+use Rattle.sei_traverse.specs.FaultInvariant.{Knows, Wanted}
 use Rattle.sei_traverse.proofs.ClosesNext.ClosesNext.{Stays, Closes, Lacks}
-use Rattle.sei_traverse.specs.Phases.{reply_of, guard_tree, guard_call, take_tree, take_wanted, store_wanted, send_want, enter_tree, give_tree, send_tree, done_tree}
+use Rattle.sei_traverse.specs.Phases.{reply_of, guard_tree, guard_call, take_tree, take_wanted, store_wanted, send_want, closing_want, closing_place, closing_tree}
 use Rattle.sei_traverse.specs.Given.{Given}
 use Rattle.sei_traverse.specs.Step.{act_in}
-use Rattle.sei_traverse.specs.Struck.{IsAimed, IsHonestResult, StruckInTake, HasCopy, HasCopyOfSome, On}
+use Rattle.sei_traverse.specs.Struck.{IsAimed, IsHonestResult, StruckInTake, HasCopy, HasCopyOfSome, On, StruckIn}
 use Rattle.sei_traverse.specs.Trusted.{IsTrusted}
 use Rattle.sei_traverse.specs.Unstruck.{InGuard, InTake, InBoth, HasOutput, CleanIn}
 use Rattle.sei_traverse.proofs.CleanAnswers.{answers_whole}
@@ -229,57 +229,69 @@ answers_answered e trusted w time made end asked aimed i =
       };
     }
 
--- Enter and Give
+-- Enter, Give, Send and Done
+
+-- closing a phase rises the number of closed ones by one
+closed_one : (phase : Phase) (done : ℕ) → done ≡ phase_number phase → risen done ≡ phase_number phase + 1
+closed_one phase done gate = ap risen gate ∙ by_phase phase
+  where
+    by_phase : (p : Phase) → risen (phase_number p) ≡ phase_number p + 1
+    by_phase Guard = refl
+    by_phase p = refl
+
+-- what is wanted does not look at the gate and the want
+same_want : (w : Workspace) (done : ℕ) (want : Want) (phase : Phase) → closing_want w phase ≡ closing_want (record w { gate = record { done = done }; want = want }) phase
+same_want w done want Take = refl
+same_want w done want Enter = refl
+same_want w done want Give = refl
+same_want w done want Send = refl
+same_want w done want phase = refl
+
+-- the workspace that such a phase leaves
+abbrev closed_with : Workspace → Phase → Workspace
+closed_with w phase = record (closed_workspace w) { want = closing_want w phase }
+
+-- one that only closes its phase ends well if what it wants is so, and if what it leads to is
+closing_always : (e : CallContext) (phase : Phase) (w : Workspace) (words : List ℕ) (more : ℕ) → w.want ≡ Nothing → w.gate.done ≡ phase_number phase →
+    Wanted e (closed_with w phase) (lent_in phase words) more (closing_want w phase) → LeadsWell e phase (closed_with w phase) words more (closing_place phase) →
+    Always (ActsWell e phase more) (closing_tree phase w words)
+closing_always e phase w words more nothing gate wanted leads =
+    always_closes (ActsWell e phase more) phase w words (λ v. ends (record v { want = closing_want w phase }) words (Leads (closing_place phase)))
+    (closes_well e phase more (closed_with w phase) words (closing_place phase) (closed_one phase w.gate.done gate) (same_want w (risen w.gate.done) (closing_want w phase) phase) wanted leads)
+    (aborts_well e phase more w words (Gate w.gate.done) nothing gate)
+
+-- the laws of such a phase
+closing_laws : (e : CallContext) (phase : Phase) → ((g : Given) (now index : ℕ) (w : Workspace) (words : List ℕ) → act_in g now phase index w words ≡ closing_tree phase w words) →
+    ((w : Workspace) (lent : Option (List ℕ)) (steps asked : ℕ) → CleanIn e w lent steps asked phase → w.gate.done ≡ phase_number phase) →
+    ((w : Workspace) (lent : Option (List ℕ)) (steps asked : ℕ) → CleanIn e w lent steps asked phase → Knows e w phase → StruckIn e w lent asked phase) →
+    ((w : Workspace) (lent : Option (List ℕ)) (asked index : ℕ) → StruckIn e w lent asked phase → StruckIn e (record w { place = at phase index }) lent asked phase) →
+    ((w : Workspace) (words : List ℕ) (asked more : ℕ) → asked ≤ more → w.want ≡ Nothing → w.gate.done ≡ phase_number phase → StruckIn e w (lent_in phase words) asked phase → Always (ActsWell e phase more) (closing_tree phase w words)) →
+    PhaseLaws e phase
+closing_laws e phase is gate stands moves always = record {
+  moved = λ w lent steps asked index i knows. moves w lent asked index (stands w lent steps asked i knows);
+  struck = λ now small told w words steps asked n y nothing i knows run.
+      always_struck (ActsWell e phase (asked + n)) (closing_tree phase w words) y n
+      (always w words asked (asked + n) (no_less asked n) nothing (gate w (lent_in phase words) steps asked i) (stands w (lent_in phase words) steps asked i knows))
+      (subst (λ (t : Tree Acted). StruckRun t y n) (is (given_for e phase w.wanted) now w.place.index w words) run);
+  honest_on = λ now small told w words asked nothing gate sealed s.
+      let more : ℕ = asked + weighed (closing_tree phase w words) in
+      subst (λ (t : Tree Acted). ActsWell e phase (asked + weighed t) (honest t)) (sym (is (given_for e phase w.wanted) now w.place.index w words))
+      (always_honest (ActsWell e phase more) (closing_tree phase w words) (always w words asked more (no_less asked (weighed (closing_tree phase w words))) nothing gate s));
+}
 
 enter_always : (e : CallContext) (w : Workspace) (words : List ℕ) (asked more : ℕ) → asked ≤ more → w.want ≡ Nothing → w.gate.done ≡ 7 → HasCopy e w words asked →
-    Always (ActsWell e Enter more) (enter_tree w words)
+    Always (ActsWell e Enter more) (closing_tree Enter w words)
 enter_always e w words asked more le nothing gate s =
-    let next : risen w.gate.done ≡ 8 = ap risen gate in
-    let v : Workspace = record (closed_workspace w) { want = WantEnter } in
-    always_closes (ActsWell e Enter more) Enter w words (λ v. ends (record v { want = WantEnter }) words (Leads (at Give 0)))
-    (closes_well e Enter more v words (at Give 0) next refl (answers_at e w v words asked more refl refl refl le s.answers)
-    (Onward next (enter_at e w (record v { place = at Give 0 }) words asked more refl refl refl refl le s)))
-    (aborts_well e Enter more w words (Gate w.gate.done) nothing gate)
+    let v : Workspace = closed_with w Enter in
+    closing_always e Enter w words more nothing gate (answers_at e w v words asked more refl refl refl le s.answers)
+    (Onward (ap risen gate) (enter_at e w (record v { place = at Give 0 }) words asked more refl refl refl refl le s))
 
 give_always : (e : CallContext) (w : Workspace) (words : List ℕ) (asked more : ℕ) → asked ≤ more → w.want ≡ Nothing → w.gate.done ≡ 8 → HasCopy e w words asked →
-    Always (ActsWell e Give more) (give_tree w words)
+    Always (ActsWell e Give more) (closing_tree Give w words)
 give_always e w words asked more le nothing gate s =
-    let next : risen w.gate.done ≡ 9 = ap risen gate in
-    let v : Workspace = record (closed_workspace w) { want = WantGive } in
-    always_closes (ActsWell e Give more) Give w words (λ v. ends (record v { want = WantGive }) words (Leads (at Send 0)))
-    (closes_well e Give more v words (at Send 0) next refl (answers_at e w v words asked more refl refl refl le s.answers)
-    (Onward next (record { words = words; answered = enter_at e w (record v { place = at Send 0 }) words asked more refl refl refl refl le s })))
-    (aborts_well e Give more w words (Gate w.gate.done) nothing gate)
-
-pub enter_laws : (e : CallContext) → IsTrusted e → PhaseLaws e Enter
-enter_laws e trusted = record {
-  moved = λ w lent steps asked index i knows.
-      on_map (λ words. HasCopy e w words asked) (λ words. HasCopy e (record w { place = at Enter index }) words asked) lent
-      (λ words s. enter_at e w (record w { place = at Enter index }) words asked asked refl refl refl refl (not_less asked) s)
-      (both_enter e trusted w lent i.time i.made i.end asked knows i.both i.copy);
-  struck = λ now small told w words steps asked n y nothing i knows run.
-      always_struck (ActsWell e Enter (asked + n)) (enter_tree w words) y n
-      (enter_always e w words asked (asked + n) (no_less asked n) nothing i.is.gate (both_enter e trusted w (Some words) i.time i.made i.end asked knows i.both i.copy)) run;
-  honest_on = λ now small told w words asked nothing gate sealed s.
-      always_honest (ActsWell e Enter (asked + weighed (enter_tree w words))) (enter_tree w words)
-      (enter_always e w words asked (asked + weighed (enter_tree w words)) (no_less asked (weighed (enter_tree w words))) nothing gate s);
-}
-
-pub give_laws : (e : CallContext) → IsTrusted e → PhaseLaws e Give
-give_laws e trusted = record {
-  moved = λ w lent steps asked index i knows.
-      on_map (λ words. HasCopy e w words asked) (λ words. HasCopy e (record w { place = at Give index }) words asked) lent
-      (λ words s. enter_at e w (record w { place = at Give index }) words asked asked refl refl refl refl (not_less asked) s)
-      (both_enter e trusted w lent i.time i.made i.end asked knows i.both i.copy);
-  struck = λ now small told w words steps asked n y nothing i knows run.
-      always_struck (ActsWell e Give (asked + n)) (give_tree w words) y n
-      (give_always e w words asked (asked + n) (no_less asked n) nothing i.is.gate (both_enter e trusted w (Some words) i.time i.made i.end asked knows i.both i.copy)) run;
-  honest_on = λ now small told w words asked nothing gate sealed s.
-      always_honest (ActsWell e Give (asked + weighed (give_tree w words))) (give_tree w words)
-      (give_always e w words asked (asked + weighed (give_tree w words)) (no_less asked (weighed (give_tree w words))) nothing gate s);
-}
-
--- Send and Done
+    let v : Workspace = closed_with w Give in
+    closing_always e Give w words more nothing gate (answers_at e w v words asked more refl refl refl le s.answers)
+    (Onward (ap risen gate) (record { words = words; answered = enter_at e w (record v { place = at Send 0 }) words asked more refl refl refl refl le s }))
 
 not_empty : (byte : ℕ) (bytes reply : List ℕ) → reply ≡ byte ∷ bytes → reply ≢ []
 not_empty byte bytes reply e f = let z : ⊥ = cc in z
@@ -290,44 +302,38 @@ send_wants e v asked [] is s = tt
 send_wants e v asked (byte ∷ bytes) is s = (s, not_empty byte bytes (reply_of v) is)
 
 send_always : (e : CallContext) (w : Workspace) (words : List ℕ) (asked more : ℕ) → asked ≤ more → w.want ≡ Nothing → w.gate.done ≡ 9 → HasCopyOfSome e w asked →
-    Always (ActsWell e Send more) (send_tree w words)
+    Always (ActsWell e Send more) (closing_tree Send w words)
 send_always e w words asked more le nothing gate s =
-    let next : risen w.gate.done ≡ 10 = ap risen gate in
-    let v : Workspace = record (closed_workspace w) { want = send_want (reply_of w) } in
-    always_closes (ActsWell e Send more) Send w words (λ v. ends (record v { want = send_want (reply_of w) }) words (Leads (at Done 0)))
-    (closes_well e Send more v words (at Done 0) next refl (send_wants e v more (reply_of v) refl (send_at e w v asked more refl refl refl refl le s))
-    (Onward next (send_at e w (record v { place = at Done 0 }) asked more refl refl refl refl le s)))
-    (aborts_well e Send more w words (Gate w.gate.done) nothing gate)
+    let v : Workspace = closed_with w Send in
+    closing_always e Send w words more nothing gate (send_wants e v more (reply_of w) refl (send_at e w v asked more refl refl refl refl le s))
+    (Onward (ap risen gate) (send_at e w (record v { place = at Done 0 }) asked more refl refl refl refl le s))
 
 done_always : (e : CallContext) (w : Workspace) (words : List ℕ) (asked more : ℕ) → asked ≤ more → w.want ≡ Nothing → w.gate.done ≡ 10 → HasCopyOfSome e w asked →
-    Always (ActsWell e Done more) (done_tree w words)
+    Always (ActsWell e Done more) (closing_tree Done w words)
 done_always e w words asked more le nothing gate s =
-    let next : risen w.gate.done ≡ 11 = ap risen gate in
-    let v : Workspace = record (closed_workspace w) { want = Nothing } in
-    always_closes (ActsWell e Done more) Done w words (λ v. ends (record v { want = Nothing }) words (Leads (at Done 1)))
-    (closes_well e Done more v words (at Done 1) next refl tt (ToEnd refl refl next (send_at e w v asked more refl refl refl refl le s)))
-    (aborts_well e Done more w words (Gate w.gate.done) nothing gate)
+    let v : Workspace = closed_with w Done in
+    closing_always e Done w words more nothing gate tt (ToEnd refl refl (ap risen gate) (send_at e w v asked more refl refl refl refl le s))
+
+-- in Enter and Give the copy is that of the lent words
+moves_copy : (e : CallContext) (phase : Phase) (w : Workspace) (lent : Option (List ℕ)) (asked index : ℕ) → On lent (λ words. HasCopy e w words asked) → On lent (λ words. HasCopy e (record w { place = at phase index }) words asked)
+moves_copy e phase w lent asked index =
+    on_map (λ words. HasCopy e w words asked) (λ words. HasCopy e (record w { place = at phase index }) words asked) lent
+    (λ words s. enter_at e w (record w { place = at phase index }) words asked asked refl refl refl refl (not_less asked) s)
+
+pub enter_laws : (e : CallContext) → IsTrusted e → PhaseLaws e Enter
+enter_laws e trusted = closing_laws e Enter (λ g now index w words. refl) (λ w lent steps asked i. i.is.gate)
+    (λ w lent steps asked i knows. both_enter e trusted w lent i.time i.made i.end asked knows i.both i.copy) (moves_copy e Enter) (enter_always e)
+
+pub give_laws : (e : CallContext) → IsTrusted e → PhaseLaws e Give
+give_laws e trusted = closing_laws e Give (λ g now index w words. refl) (λ w lent steps asked i. i.is.gate)
+    (λ w lent steps asked i knows. both_enter e trusted w lent i.time i.made i.end asked knows i.both i.copy) (moves_copy e Give) (give_always e)
 
 pub send_laws : (e : CallContext) → IsTrusted e → PhaseLaws e Send
-send_laws e trusted = record {
-  moved = λ w lent steps asked index i knows.
-      send_at e w (record w { place = at Send index }) asked asked refl refl refl refl (not_less asked) (answers_answered e trusted w i.time i.made i.end asked knows i.answered);
-  struck = λ now small told w words steps asked n y nothing i knows run.
-      always_struck (ActsWell e Send (asked + n)) (send_tree w words) y n
-      (send_always e w words asked (asked + n) (no_less asked n) nothing i.is.gate (answers_answered e trusted w i.time i.made i.end asked knows i.answered)) run;
-  honest_on = λ now small told w words asked nothing gate sealed s.
-      always_honest (ActsWell e Send (asked + weighed (send_tree w words))) (send_tree w words)
-      (send_always e w words asked (asked + weighed (send_tree w words)) (no_less asked (weighed (send_tree w words))) nothing gate s);
-}
+send_laws e trusted = closing_laws e Send (λ g now index w words. refl) (λ w lent steps asked i. i.is.gate)
+    (λ w lent steps asked i knows. answers_answered e trusted w i.time i.made i.end asked knows i.answered)
+    (λ w lent asked index. send_at e w (record w { place = at Send index }) asked asked refl refl refl refl (not_less asked)) (send_always e)
 
 pub done_laws : (e : CallContext) → IsTrusted e → PhaseLaws e Done
-done_laws e trusted = record {
-  moved = λ w lent steps asked index i knows.
-      send_at e w (record w { place = at Done index }) asked asked refl refl refl refl (not_less asked) (answers_answered e trusted w i.time i.made i.end asked knows i.answered);
-  struck = λ now small told w words steps asked n y nothing i knows run.
-      always_struck (ActsWell e Done (asked + n)) (done_tree w words) y n
-      (done_always e w words asked (asked + n) (no_less asked n) nothing i.is.gate (answers_answered e trusted w i.time i.made i.end asked knows i.answered)) run;
-  honest_on = λ now small told w words asked nothing gate sealed s.
-      always_honest (ActsWell e Done (asked + weighed (done_tree w words))) (done_tree w words)
-      (done_always e w words asked (asked + weighed (done_tree w words)) (no_less asked (weighed (done_tree w words))) nothing gate s);
-}
+done_laws e trusted = closing_laws e Done (λ g now index w words. refl) (λ w lent steps asked i. i.is.gate)
+    (λ w lent steps asked i knows. answers_answered e trusted w i.time i.made i.end asked knows i.answered)
+    (λ w lent asked index. send_at e w (record w { place = at Done index }) asked asked refl refl refl refl (not_less asked)) (done_always e)

@@ -35,7 +35,7 @@ use Rattle.sei_traverse.specs.CallContext.{CallContext, Follows, first_setting, 
 use Rattle.sei_traverse.specs.FaultInvariant.{Wanted}
 use Rattle.sei_traverse.proofs.ClosesNext.{ClosesNext}
 use Rattle.sei_traverse.proofs.ClosesNext.ClosesNext.{Stays, Closes}
-use Rattle.sei_traverse.specs.PassActs.{asked_behind, pass_of, first_machine, with_first, first_from, first_to}
+use Rattle.sei_traverse.specs.PassActs.{pass_of, machine_in, with_machine, asked_behind, pass_from, pass_to}
 use Rattle.sei_traverse.specs.Given.{given_of, setting_in}
 use Rattle.sei_traverse.specs.Step.{act_in}
 use Rattle.sei_traverse.specs.Struck.{IsNoted, relogged, IsAimed, IsMisread, FirstStruck, StruckInFirst, WasMisread, RestoreStruck}
@@ -43,7 +43,7 @@ use Rattle.sei_traverse.specs.Struck.FirstStruck.{Restorable as Undoes, Misread 
 use Rattle.sei_traverse.specs.Struck.RestoreStruck.{Restorable as StillUndoes, Misread as HasMisread}
 use Rattle.sei_traverse.specs.Trusted.{IsTrusted}
 use Rattle.sei_traverse.specs.Unstruck.{SecondIsNew, InFirst, FirstRuns}
-use Rattle.sei_traverse.proofs.Closes.{closed, closes_in_step, first_behind}
+use Rattle.sei_traverse.proofs.Closes.{closed, closes_in_step, pass_behind}
 use Rattle.sei_traverse.proofs.PhaseLaws.{given_for, EndsRight, ActsWell, PhaseLaws}
 use Rattle.sei_traverse.proofs.PhaseLaws.LeadsWell.{Onward}
 use Rattle.sei_traverse.proofs.SmallNotes.{small_agrees, small_honest, small_struck}
@@ -154,39 +154,39 @@ all_pending log words taken u =
 
 -- the workspace behind a statement that leads on, and behind one that halts
 abbrev stepped : Workspace → Machine → ℕ → Workspace
-stepped w m index = record (with_first w m) { place = at First index }
+stepped w m index = record (with_machine Making w m) { place = at First index }
 
 abbrev halted : Workspace → Machine → Workspace
-halted w m = record (closed (with_first w m)) { place = at Restore 0 }
+halted w m = record (closed (with_machine Making w m)) { place = at Restore 0 }
 
 module _ (e : CallContext) (w : Workspace) (nothing : w.want ≡ Nothing) (gate : w.gate.done ≡ phase_number First) (space : w.first.space ≡ e.space) (second : SecondIsNew e w) (m : Machine) (asked : ℕ) where
-  leads_on : (index : ℕ) → FirstStruck e (stepped w m index) m.words asked → ActsWell e First asked (acted (with_first w m) m.words (Leads (at First index)))
+  leads_on : (index : ℕ) → FirstStruck e (stepped w m index) m.words asked → ActsWell e First asked (acted (with_machine Making w m) m.words (Leads (at First index)))
   leads_on index s =
-      wants_nothing e asked (acted (with_first w m) m.words (Leads (at First index))) nothing (Stays gate nothing)
+      wants_nothing e asked (acted (with_machine Making w m) m.words (Leads (at First index))) nothing (Stays gate nothing)
       (Onward gate (record { space = space; second = record { second = second.second; second_log = second.second_log }; stands = s }))
 
-  leads_behind : RestoreStruck e (halted w m) m.words asked → ActsWell e First asked (acted (closed (with_first w m)) m.words (Leads (at Restore 0)))
+  leads_behind : RestoreStruck e (halted w m) m.words asked → ActsWell e First asked (acted (closed (with_machine Making w m)) m.words (Leads (at Restore 0)))
   leads_behind s =
       let three : risen w.gate.done ≡ 3 = ap risen gate in
-      wants_nothing e asked (acted (closed (with_first w m)) m.words (Leads (at Restore 0))) refl (Closes First refl three refl)
+      wants_nothing e asked (acted (closed (with_machine Making w m)) m.words (Leads (at Restore 0))) refl (Closes First refl three refl)
       (Onward three (record { second = second.second; second_log = second.second_log }, s))
 
   -- whatever the closing test is answered
   closed_so : (b : Bool) → RestoreStruck e (halted w m) m.words asked →
-      ActsWell e First asked (honest (closed_to (with_first w m) m.words (λ v. ends (record v { want = Nothing }) m.words (Leads (at Restore 0))) (b, if b then risen w.gate.done else w.gate.done)))
+      ActsWell e First asked (honest (closed_to (with_machine Making w m) m.words (λ v. ends (record v { want = Nothing }) m.words (Leads (at Restore 0))) (b, if b then risen w.gate.done else w.gate.done)))
   closed_so true s = leads_behind s
   closed_so false s = wants_nothing e asked _ nothing (Stays gate nothing) tt
 
   -- by the outcome of the statement
   ends_so_by : (o : Outcome) → ((index : ℕ) → o ≡ Next index → FirstStruck e (stepped w m index) m.words asked) → (o ≡ Halted → RestoreStruck e (halted w m) m.words asked) →
-      ActsWell e First asked (honest (first_from (with_first w m) m.words o))
+      ActsWell e First asked (honest (pass_from Making (with_machine Making w m) m.words o))
   ends_so_by (Next index) next halts = leads_on index (next index refl)
   ends_so_by Halted next halts =
-      subst (λ (y : Acted). ActsWell e First asked y) (sym (closes_in_step First (with_first w m) m.words (at Restore 0) gate)) (leads_behind (halts refl))
-  ends_so_by (Bad cause) next halts = wants_nothing e asked (acted (with_first w m) m.words (Aborts cause)) nothing (Stays gate nothing) tt
+      subst (λ (y : Acted). ActsWell e First asked y) (sym (closes_in_step First (with_machine Making w m) m.words (at Restore 0) gate)) (leads_behind (halts refl))
+  ends_so_by (Bad cause) next halts = wants_nothing e asked (acted (with_machine Making w m) m.words (Aborts cause)) nothing (Stays gate nothing) tt
 
   -- where the log undoes what was changed, it may go on anywhere
-  undoes_on : (o : Outcome) → IsNoted e m.notes.now → undone m.log.items m.words ≡ e.taken → ActsWell e First asked (honest (first_from (with_first w m) m.words o))
+  undoes_on : (o : Outcome) → IsNoted e m.notes.now → undone m.log.items m.words ≡ e.taken → ActsWell e First asked (honest (pass_from Making (with_machine Making w m) m.words o))
   undoes_on o small u = ends_so_by o (λ index is. Undoes small u) (λ is. StillUndoes small (all_pending m.log.items m.words e.taken u))
 
 -- behind the closing test nothing is asked
@@ -196,23 +196,23 @@ closed_asks_no_more w words false done y n s = s
 
 module _ (e : CallContext) (w : Workspace) (nothing : w.want ≡ Nothing) (gate : w.gate.done ≡ phase_number First) (space : w.first.space ≡ e.space) (second : SecondIsNew e w) (m : Machine) (asked : ℕ) (small : IsNoted e m.notes.now) (u : undone m.log.items m.words ≡ e.taken) where
   -- a strike behind the statement falls on the closing test
-  struck_behind : (o : Outcome) (y : Acted) (n : ℕ) → StruckRun (first_from (with_first w m) m.words o) y n → ActsWell e First asked y
+  struck_behind : (o : Outcome) (y : Acted) (n : ℕ) → StruckRun (pass_from Making (with_machine Making w m) m.words o) y n → ActsWell e First asked y
   struck_behind (Next index) y n s = absurd s
   struck_behind Halted y n (inl h) =
       subst (λ (x : Acted). ActsWell e First asked x) (sym h.end)
       (closed_so e w nothing gate space second m asked h.answer (StillUndoes small (all_pending m.log.items m.words e.taken u)))
-  struck_behind Halted y n (inr (k, is, s)) = absurd (closed_asks_no_more (with_first w m) m.words (w.gate.done == 2) (if w.gate.done == 2 then risen w.gate.done else w.gate.done) y k s)
+  struck_behind Halted y n (inr (k, is, s)) = absurd (closed_asks_no_more (with_machine Making w m) m.words (w.gate.done == 2) (if w.gate.done == 2 then risen w.gate.done else w.gate.done) y k s)
   struck_behind (Bad cause) y n s = absurd s
 
 -- A strike in the first pass.
 
 -- a clean first pass has come here
-came_clean : (e : CallContext) (w : Workspace) (words : List ℕ) (steps asked : ℕ) (r : FirstRuns e w words steps asked) → Came e r.made asked (at_outcome (first_machine w words) (Next w.place.index))
+came_clean : (e : CallContext) (w : Workspace) (words : List ℕ) (steps asked : ℕ) (r : FirstRuns e w words steps asked) → Came e r.made asked (at_outcome (machine_in Making w words) (Next w.place.index))
 came_clean e w words steps asked r = record { comes = r.comes; told = r.told }
 
 clean_keeps : (e : CallContext) (w : Workspace) (words : List ℕ) (steps asked : ℕ) → FirstRuns e w words steps asked → Keeps e.taken w.first_log.items words
 clean_keeps e w words steps asked r =
-    comes_keeps (first_setting e) (first_start e) r.made asked (at_outcome (first_machine w words) (Next w.place.index)) refl r.comes
+    comes_keeps (first_setting e) (first_start e) r.made asked (at_outcome (machine_in Making w words) (Next w.place.index)) refl r.comes
 
 clean_small : (e : CallContext) (w : Workspace) (words : List ℕ) (steps asked : ℕ) → FirstRuns e w words steps asked → IsNoted e w.notes.now
 clean_small e w words steps asked r = small_agrees e w.notes.now r.comes.time r.told r.comes.agrees
@@ -239,7 +239,7 @@ given_step e now w m sealed wanted =
 -- an old word was misread
 module _ (e : CallContext) (w : Workspace) (words : List ℕ) (aimed : IsAimed e w) (keep : Keeps e.taken w.first_log.items words) (a was v i n q asked : ℕ) (more : q ≤ asked) where
   abbrev misread_machine : Machine
-  misread_machine = stored (one_made (first_machine w words)) a (change_of a was v) v
+  misread_machine = stored (one_made (machine_in Making w words)) a (change_of a was v) v
 
   misread_by : (log : Kept Change) → log.room ≡ w.first_log.room → length log.items ≤ length w.first_log.items + 1 → Came e n q (at_outcome (relogged log misread_machine) (Next i)) →
       IsMisread e (stepped w misread_machine i) (slice_set words a v) asked
@@ -259,13 +259,13 @@ module _ (e : CallContext) (w : Workspace) (words : List ℕ) (aimed : IsAimed e
 
   -- it was taken for another one and stored, or taken for the same and not stored
   misread_so : (word : ℕ) (z : After) → slice_get words a ≡ Some word → Came e n q z →
-      ((word ≡ v) × (z ≡ at_outcome (one_made (first_machine w words)) (Next i))) ⊎ (z ≡ at_outcome (stored (one_made (first_machine w words)) a (change_of a word v) v) (Next i)) →
+      ((word ≡ v) × (z ≡ at_outcome (one_made (machine_in Making w words)) (Next i))) ⊎ (z ≡ at_outcome (stored (one_made (machine_in Making w words)) a (change_of a word v) v) (Next i)) →
       IsMisread e (stepped w misread_machine i) (slice_set words a v) asked
   misread_so word z stood c (inl (same, is)) =
       let unchanged : slice_set words a v ≡ words = set_same words a v (stood ∙ ap (λ (x : ℕ). let o : Option ℕ = Some x in o) same) in
       misread_by w.first_log refl (omega arith)
       (subst (λ (x : After). Came e n q x)
-      (is ∙ ap (λ (ws : List ℕ). at_outcome (with_words (one_made (first_machine w words)) ws) (Next i)) (sym unchanged)) c)
+      (is ∙ ap (λ (ws : List ℕ). at_outcome (with_words (one_made (machine_in Making w words)) ws) (Next i)) (sym unchanged)) c)
   misread_so word z stood c (inr is) =
       misread_by (pushed w.first_log (change_of a word v)) refl (omega (arith, length-append w.first_log.items (change_of a word v ∷ [])))
       (subst (λ (x : After). Came e n q x) is c)
@@ -273,75 +273,75 @@ module _ (e : CallContext) (w : Workspace) (words : List ℕ) (aimed : IsAimed e
 module _ (e : CallContext) (always : EndsAlways (first_setting e) (first_start e)) (now : ℕ) (small : now < 2 ^ 64) (told : Follows e.clock now) (w : Workspace) (words : List ℕ) (steps asked : ℕ)
     (nothing : w.want ≡ Nothing) (h : InFirst e w (Some words) steps asked) (aimed : IsAimed e w) where
   abbrev clean_step : Tree After
-  clean_step = first_step e now w.place.index (first_machine w words)
+  clean_step = first_step e now w.place.index (machine_in Making w words)
 
   -- a strike in the statement
-  struck_before : (n : ℕ) (x : After) (k : ℕ) → k ≤ n → IsNoted e x.machine.notes.now → StruckEffect (at_time (first_setting e) now) w.place.index (first_machine w words) x k →
-      ActsWell e First (asked + n) (honest (first_to w x))
+  struck_before : (n : ℕ) (x : After) (k : ℕ) → k ≤ n → IsNoted e x.machine.notes.now → StruckEffect (at_time (first_setting e) now) w.place.index (machine_in Making w words) x k →
+      ActsWell e First (asked + n) (honest (pass_to Making w x))
   struck_before n x k le noted (Plain effect) =
       undoes_on e w nothing h.is.gate h.at.space h.second x.machine (asked + n) x.outcome noted
-      (effect_undone e.taken (first_machine w words) x.machine effect (clean_keeps e w words steps asked h.at).undo)
+      (effect_undone e.taken (machine_in Making w words) x.machine effect (clean_keeps e w words steps asked h.at).undo)
   struck_before n x k le noted (Wrong a word was v stood room is so many) =
-      subst (λ (z : After). ActsWell e First (asked + n) (honest (first_to w z))) (sym is)
-      (leads_on e w nothing h.is.gate h.at.space h.second (stored (one_made (first_machine w words)) a (change_of a was v) v) (asked + n) (w.place.index + 1)
+      subst (λ (z : After). ActsWell e First (asked + n) (honest (pass_to Making w z))) (sym is)
+      (leads_on e w nothing h.is.gate h.at.space h.second (stored (one_made (machine_in Making w words)) a (change_of a was v) v) (asked + n) (w.place.index + 1)
       (Misreads (misread_so e w words aimed (clean_keeps e w words steps asked h.at) a was v (w.place.index + 1) (suc h.at.made) (asked + weighed clean_step) (asked + n)
       (omega (arith, many, le)) word (honest clean_step) stood
-      (came_on e always h.at.made asked w.place.index (first_machine w words) (came_clean e w words steps asked h.at) now small told) so)))
+      (came_on e always h.at.made asked w.place.index (machine_in Making w words) (came_clean e w words steps asked h.at) now small told) so)))
 
-  struck_within : (y : Acted) (n : ℕ) → StruckBound clean_step (first_to w) y n → ActsWell e First (asked + n) y
+  struck_within : (y : Acted) (n : ℕ) → StruckBound clean_step (pass_to Making w) y n → ActsWell e First (asked + n) y
   struck_within y n (Before x k s is many) =
       subst (λ (z : Acted). ActsWell e First (asked + n) z) (sym is)
-      (struck_before n x k (omega (arith, many)) (small_struck e (first_setting e) now small told w.place.index (first_machine w words) (clean_small e w words steps asked h.at) x k s) (struck_effect (at_time (first_setting e) now) w.place.index (first_machine w words) x k s))
+      (struck_before n x k (omega (arith, many)) (small_struck e (first_setting e) now small told w.place.index (machine_in Making w words) (clean_small e w words steps asked h.at) x k s) (struck_effect (at_time (first_setting e) now) w.place.index (machine_in Making w words) x k s))
   struck_within y n (Behind k s many) =
       struck_behind e w nothing h.is.gate h.at.space h.second (honest clean_step).machine (asked + n)
-      (small_honest e (first_setting e) now small told w.place.index (first_machine w words) (clean_small e w words steps asked h.at))
-      (effect_undone e.taken (first_machine w words) (honest clean_step).machine (honest_effect (at_time (first_setting e) now) w.place.index (first_machine w words)) (clean_keeps e w words steps asked h.at).undo)
+      (small_honest e (first_setting e) now small told w.place.index (machine_in Making w words) (clean_small e w words steps asked h.at))
+      (effect_undone e.taken (machine_in Making w words) (honest clean_step).machine (honest_effect (at_time (first_setting e) now) w.place.index (machine_in Making w words)) (clean_keeps e w words steps asked h.at).undo)
       (honest clean_step).outcome y k s
 
 pub first_struck : (e : CallContext) → IsTrusted e → (now : ℕ) → now < 2 ^ 64 → Follows e.clock now → (w : Workspace) (words : List ℕ) (steps asked n : ℕ) (y : Acted) → w.want ≡ Nothing →
     InFirst e w (Some words) steps asked → IsAimed e w → StruckRun (act_in (given_for e First w.wanted) now First w.place.index w words) y n → ActsWell e First (asked + n) y
 first_struck e trusted now small told w words steps asked n y nothing h aimed s =
     struck_within e (trusted.ends aimed.fit) now small told w words steps asked nothing h aimed y n
-    (struck_bound (first_step e now w.place.index (first_machine w words)) (first_to w) y n
-    (subst (λ (t : Tree After). StruckRun (bound t (first_to w)) y n) (given_step e now w (first_machine w words) h.is.sealed aimed.wanted) s))
+    (struck_bound (first_step e now w.place.index (machine_in Making w words)) (pass_to Making w) y n
+    (subst (λ (t : Tree After). StruckRun (bound t (pass_to Making w)) y n) (given_step e now w (machine_in Making w words) h.is.sealed aimed.wanted) s))
 
 -- An honest statement behind a strike.
 
 -- but for its log, a pass with a misread word does what an honest one does
 module _ (e : CallContext) (always : EndsAlways (first_setting e) (first_start e)) (now : ℕ) (small : now < 2 ^ 64) (told : Follows e.clock now) (w : Workspace) (words : List ℕ) (asked : ℕ)
     (nothing : w.want ≡ Nothing) (gate : w.gate.done ≡ phase_number First) (space : w.first.space ≡ e.space) (second : SecondIsNew e w) (h : IsMisread e w words asked) (total : ℕ)
-    (many : asked + (weighed (first_step e now w.place.index (first_machine w words)) + asked_behind (honest (first_step e now w.place.index (first_machine w words))).outcome) ≤ total) where
+    (many : asked + (weighed (first_step e now w.place.index (machine_in Making w words)) + asked_behind (honest (first_step e now w.place.index (machine_in Making w words))).outcome) ≤ total) where
   abbrev misread_step : Tree After
-  misread_step = first_step e now w.place.index (first_machine w words)
+  misread_step = first_step e now w.place.index (machine_in Making w words)
 
   abbrev misread_end : After
   misread_end = honest misread_step
 
   -- the same statement with the honest log
   abbrev relogged_step : Tree After
-  relogged_step = first_step e now w.place.index (relogged h.log (first_machine w words))
+  relogged_step = first_step e now w.place.index (relogged h.log (machine_in Making w words))
 
-  came_here : Came e h.made h.number (at_outcome (relogged h.log (first_machine w words)) (Next w.place.index))
+  came_here : Came e h.made h.number (at_outcome (relogged h.log (machine_in Making w words)) (Next w.place.index))
   came_here = record { comes = h.comes; told = h.told }
 
   applies_on : applied misread_end.machine.log.items e.taken ≡ misread_end.machine.words
-  applies_on = honest_applied e.taken (first_machine w words) misread_end.machine (keeps_honest (at_time (first_setting e) now) w.place.index (first_machine w words)) h.applies
+  applies_on = honest_applied e.taken (machine_in Making w words) misread_end.machine (keeps_honest (at_time (first_setting e) now) w.place.index (machine_in Making w words)) h.applies
 
   off_on : SameOff misread_end.machine.log.items misread_end.machine.words e.taken
-  off_on = effect_off e.taken (first_machine w words) misread_end.machine (honest_effect (at_time (first_setting e) now) w.place.index (first_machine w words)) h.off
+  off_on = effect_off e.taken (machine_in Making w words) misread_end.machine (honest_effect (at_time (first_setting e) now) w.place.index (machine_in Making w words)) h.off
 
   module _ (going : IsGoing misread_end.outcome) where
     relogs : Relogs (honest relogged_step) misread_end
-    relogs = relog (at_time (first_setting e) now) w.place.index (first_machine w words) h.log h.room h.fewer going
+    relogs = relog (at_time (first_setting e) now) w.place.index (machine_in Making w words) h.log h.room h.fewer going
 
     asks_fewer : weighed relogged_step ≤ weighed misread_step
-    asks_fewer = relog_asks (at_time (first_setting e) now) w.place.index (first_machine w words) h.log h.room h.fewer going
+    asks_fewer = relog_asks (at_time (first_setting e) now) w.place.index (machine_in Making w words) h.log h.room h.fewer going
 
     -- where the honest pass comes
     came_relogged : Came e (suc h.made) (h.number + weighed relogged_step) (at_outcome (relogged relogs.log misread_end.machine) misread_end.outcome)
     came_relogged =
         subst (λ (x : After). Came e (suc h.made) (h.number + weighed relogged_step) x) relogs.same
-        (came_on e always h.made h.number w.place.index (relogged h.log (first_machine w words)) came_here now small told)
+        (came_on e always h.made h.number w.place.index (relogged h.log (machine_in Making w words)) came_here now small told)
 
     came_in : (o : Outcome) → misread_end.outcome ≡ o → Came e (suc h.made) (h.number + weighed relogged_step) (at_outcome (relogged relogs.log misread_end.machine) o)
     came_in o is = subst (λ (p : Outcome). Came e (suc h.made) (h.number + weighed relogged_step) (at_outcome (relogged relogs.log misread_end.machine) p)) is came_relogged
@@ -369,7 +369,7 @@ module _ (e : CallContext) (always : EndsAlways (first_setting e) (first_start e
           aimed = record { fit = h.aimed.fit; wanted = h.aimed.wanted };
           time = c.comes.time;
           made = suc h.made;
-          whole = came_whole e always h.made h.number w.place.index (relogged h.log (first_machine w words)) came_here (h.number + weighed relogged_step) (relogged relogs.log misread_end.machine) c;
+          whole = came_whole e always h.made h.number w.place.index (relogged h.log (machine_in Making w words)) came_here (h.number + weighed relogged_step) (relogged relogs.log misread_end.machine) c;
           first = ap (λ (g : PassSpace). let p : PassState = record (pass_of w.first misread_end.machine) { space = g } in p) space;
           notes = refl;
           applies = applies_on;
@@ -379,7 +379,7 @@ module _ (e : CallContext) (always : EndsAlways (first_setting e) (first_start e
   goes_by : (o : Outcome) → misread_end.outcome ≡ o → IsGoing o → IsGoing misread_end.outcome
   goes_by o is g = subst IsGoing (sym is) g
 
-  misread_acts : ActsWell e First total (honest (first_to w misread_end))
+  misread_acts : ActsWell e First total (honest (pass_to Making w misread_end))
   misread_acts =
       ends_so_by e w nothing gate space second misread_end.machine total misread_end.outcome
       (λ index is. Misreads (misreads_on (goes_by (Next index) is tt) index is))
@@ -388,29 +388,29 @@ module _ (e : CallContext) (always : EndsAlways (first_setting e) (first_start e
 module _ (e : CallContext) (now : ℕ) (w : Workspace) (words : List ℕ) (asked : ℕ) (nothing : w.want ≡ Nothing) (gate : w.gate.done ≡ phase_number First) (space : w.first.space ≡ e.space) (second : SecondIsNew e w) where
   -- whatever bucket is lent
   abbrev given_tree : Tree After
-  given_tree = step_tree (setting_in (given_for e First w.wanted) Making w.sealed now) w.place.index (first_machine w words)
+  given_tree = step_tree (setting_in (given_for e First w.wanted) Making w.sealed now) w.place.index (machine_in Making w words)
 
-  undoes_honest : now < 2 ^ 64 → Follows e.clock now → IsNoted e w.notes.now → undone w.first_log.items words ≡ e.taken → ActsWell e First (asked + weighed (bound given_tree (first_to w))) (honest (bound given_tree (first_to w)))
+  undoes_honest : now < 2 ^ 64 → Follows e.clock now → IsNoted e w.notes.now → undone w.first_log.items words ≡ e.taken → ActsWell e First (asked + weighed (bound given_tree (pass_to Making w))) (honest (bound given_tree (pass_to Making w)))
   undoes_honest small told noted u =
-      subst (λ (y : Acted). ActsWell e First (asked + weighed (bound given_tree (first_to w))) y) (sym (honest_bound given_tree (first_to w)))
-      (undoes_on e w nothing gate space second (honest given_tree).machine (asked + weighed (bound given_tree (first_to w))) (honest given_tree).outcome
-      (small_honest e (setting_in (given_for e First w.wanted) Making w.sealed now) now small told w.place.index (first_machine w words) noted)
-      (effect_undone e.taken (first_machine w words) (honest given_tree).machine
-      (honest_effect (setting_in (given_for e First w.wanted) Making w.sealed now) w.place.index (first_machine w words)) u))
+      subst (λ (y : Acted). ActsWell e First (asked + weighed (bound given_tree (pass_to Making w))) y) (sym (honest_bound given_tree (pass_to Making w)))
+      (undoes_on e w nothing gate space second (honest given_tree).machine (asked + weighed (bound given_tree (pass_to Making w))) (honest given_tree).outcome
+      (small_honest e (setting_in (given_for e First w.wanted) Making w.sealed now) now small told w.place.index (machine_in Making w words) noted)
+      (effect_undone e.taken (machine_in Making w words) (honest given_tree).machine
+      (honest_effect (setting_in (given_for e First w.wanted) Making w.sealed now) w.place.index (machine_in Making w words)) u))
 
   misreads_honest : EndsAlways (first_setting e) (first_start e) → now < 2 ^ 64 → Follows e.clock now → w.sealed ≡ e.sealed → IsMisread e w words asked →
-      ActsWell e First (asked + weighed (bound given_tree (first_to w))) (honest (bound given_tree (first_to w)))
+      ActsWell e First (asked + weighed (bound given_tree (pass_to Making w))) (honest (bound given_tree (pass_to Making w)))
   misreads_honest always small told sealed h =
-      let step : Tree After = first_step e now w.place.index (first_machine w words) in
-      let all = weighed_bound step (first_to w) in
-      let behind = first_behind (with_first w (honest step).machine) (honest step).machine.words (honest step).outcome in
-      subst (λ (t : Tree After). ActsWell e First (asked + weighed (bound t (first_to w))) (honest (bound t (first_to w))))
-      (sym (given_step e now w (first_machine w words) sealed h.aimed.wanted))
-      (subst (λ (y : Acted). ActsWell e First (asked + weighed (bound step (first_to w))) y) (sym (honest_bound step (first_to w)))
-      (misread_acts e always now small told w words asked nothing gate space second h (asked + weighed (bound step (first_to w))) (omega (arith, all, behind))))
+      let step : Tree After = first_step e now w.place.index (machine_in Making w words) in
+      let all = weighed_bound step (pass_to Making w) in
+      let behind = pass_behind Making (with_machine Making w (honest step).machine) (honest step).machine.words (honest step).outcome in
+      subst (λ (t : Tree After). ActsWell e First (asked + weighed (bound t (pass_to Making w))) (honest (bound t (pass_to Making w))))
+      (sym (given_step e now w (machine_in Making w words) sealed h.aimed.wanted))
+      (subst (λ (y : Acted). ActsWell e First (asked + weighed (bound step (pass_to Making w))) y) (sym (honest_bound step (pass_to Making w)))
+      (misread_acts e always now small told w words asked nothing gate space second h (asked + weighed (bound step (pass_to Making w))) (omega (arith, all, behind))))
 
   honest_stands : IsTrusted e → now < 2 ^ 64 → Follows e.clock now → w.sealed ≡ e.sealed → FirstStruck e w words asked →
-      ActsWell e First (asked + weighed (bound given_tree (first_to w))) (honest (bound given_tree (first_to w)))
+      ActsWell e First (asked + weighed (bound given_tree (pass_to Making w))) (honest (bound given_tree (pass_to Making w)))
   honest_stands trusted small told sealed (Undoes noted u) = undoes_honest small told noted u
   honest_stands trusted small told sealed (Misreads h) = misreads_honest (trusted.ends h.aimed.fit) small told sealed h
 

@@ -32,9 +32,9 @@ use Rattle.sei_traverse.specs.declared.workspace.Workspace.{Workspace}
 use Rattle.sei_traverse.specs.Acts.{Acted, acted, ends, at, closed_to, closes}
 use Rattle.sei_traverse.specs.Comes.{at_time}
 use Rattle.sei_traverse.specs.CallContext.{CallContext, first_setting, first_start, Whole}
-use Rattle.sei_traverse.specs.FaultInvariant.{Wanted, closing_want}
+use Rattle.sei_traverse.specs.FaultInvariant.{Wanted}
 use Rattle.sei_traverse.proofs.ClosesNext.ClosesNext.{Stays, Closes}
-use Rattle.sei_traverse.specs.Phases.{undone_to, restore_tree}
+use Rattle.sei_traverse.specs.Phases.{undone_to, restore_tree, closing_want}
 use Rattle.sei_traverse.specs.Struck.{IsNoted, IsAimed, WasHonest, WasMisread, pending, On, RestoreStruck, SecondStruck, ComesOn}
 use Rattle.sei_traverse.specs.Struck.RestoreStruck.{Restorable, Misread, Damaged}
 use Rattle.sei_traverse.specs.Struck.SecondStruck.{Good, Misread as MisreadOn, Damaged as DamagedOn}

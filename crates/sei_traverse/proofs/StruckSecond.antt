@@ -47,14 +47,14 @@ use Rattle.sei_traverse.specs.Comes.{renoted}
 use Rattle.sei_traverse.specs.CallContext.{CallContext, first_start}
 use Rattle.sei_traverse.specs.FaultInvariant.{Wanted}
 use Rattle.sei_traverse.proofs.ClosesNext.ClosesNext.{Stays, Closes}
-use Rattle.sei_traverse.specs.PassActs.{asked_behind, second_machine, with_second, second_from, second_to}
+use Rattle.sei_traverse.specs.PassActs.{machine_in, with_machine, asked_behind, pass_from, pass_to}
 use Rattle.sei_traverse.specs.Given.{setting_in}
 use Rattle.sei_traverse.specs.Struck.{IsNoted, IsAimed, WasHonest, WasMisread, start_on, setting_on, ComesOn, SecondStruck, CompareStruck, On}
 use Rattle.sei_traverse.specs.Struck.SecondStruck.{Good, Misread, Damaged, Struck}
 use Rattle.sei_traverse.specs.Struck.CompareStruck.{Fine, Doubt}
 use Rattle.sei_traverse.specs.Trusted.{IsTrusted, second_setting}
 use Rattle.sei_traverse.specs.Unstruck.{InSecond}
-use Rattle.sei_traverse.proofs.Closes.{closed, closes_in_step, second_behind}
+use Rattle.sei_traverse.proofs.Closes.{closed, closes_in_step, pass_behind}
 use Rattle.sei_traverse.proofs.GoodAnswers.{good_answers}
 use Rattle.sei_traverse.proofs.PhaseLaws.{given_for, ActsWell, PhaseLaws}
 use Rattle.sei_traverse.proofs.PhaseLaws.LeadsWell.{Onward}
@@ -178,18 +178,18 @@ struck_off those g i m y n (Wrong a word was v here room is or asks) s =
 
 -- the step of the second pass, whatever the clock answers
 abbrev on_step : CallContext → Workspace → List ℕ → Tree After
-on_step e w words = step_tree (setting_on e w.wanted) w.place.index (second_machine w words)
+on_step e w words = step_tree (setting_on e w.wanted) w.place.index (machine_in Reading w words)
 
 -- the act's own step is that one
 step_is : (e : CallContext) (now : ℕ) (w : Workspace) (words : List ℕ) → w.sealed ≡ e.sealed →
-    step_tree (setting_in (given_for e Second w.wanted) Reading w.sealed now) w.place.index (second_machine w words) ≡ on_step e w words
+    step_tree (setting_in (given_for e Second w.wanted) Reading w.sealed now) w.place.index (machine_in Reading w words) ≡ on_step e w words
 step_is e now w words is =
-    ap (λ (s : Sealed). step_tree (setting_in (given_for e Second w.wanted) Reading s now) w.place.index (second_machine w words)) is
-    ∙ timeless_again (setting_in (given_for e Second w.wanted) Making e.sealed 0) now w.place.index (second_machine w words)
+    ap (λ (s : Sealed). step_tree (setting_in (given_for e Second w.wanted) Reading s now) w.place.index (machine_in Reading w words)) is
+    ∙ timeless_again (setting_in (given_for e Second w.wanted) Making e.sealed 0) now w.place.index (machine_in Reading w words)
 
 -- the workspace whose second pass came to this machine, with another gate, want and place
 abbrev behind : Workspace → Machine → ℕ → Want → Place → Workspace
-behind w m done want to = record (with_second w m) { gate = record { done = done }; want = want; place = to }
+behind w m done want to = record (with_machine Reading w m) { gate = record { done = done }; want = want; place = to }
 
 module _ (e : CallContext) (w : Workspace) (m : Machine) (done : ℕ) (want : Want) (to : Place) (asked later : ℕ) (le : asked ≤ later) (kept : m.notes ≡ w.notes) where
   -- the first pass is what it was
@@ -220,7 +220,7 @@ module _ (e : CallContext) (w : Workspace) (words : List ℕ) where
   on_end = honest (on_step e w words)
 
   notes_here : on_end.machine.notes ≡ w.notes
-  notes_here = always_honest (λ (y : After). y.machine.notes ≡ w.notes) (on_step e w words) (notes_kept (setting_on e w.wanted) w.place.index (second_machine w words) refl)
+  notes_here = always_honest (λ (y : After). y.machine.notes ≡ w.notes) (on_step e w words) (notes_kept (setting_on e w.wanted) w.place.index (machine_in Reading w words) refl)
 
   module _ (done : ℕ) (want : Want) (to : Place) (asked later : ℕ) (le : asked + (weighed (on_step e w words) + asked_behind on_end.outcome) ≤ later) (going : IsGoing on_end.outcome) where
     abbrev there : Workspace
@@ -230,7 +230,7 @@ module _ (e : CallContext) (w : Workspace) (words : List ℕ) where
     comes_one : (found : List ℕ) (n : ℕ) → ComesOn e w found words (Next w.place.index) n → ComesOn e there found on_end.machine.words on_end.outcome (suc n)
     comes_one found n c =
         subst (λ (k : Notes). after (setting_on e w.wanted) (start_on e found k) (suc n) ≡ on_end) (sym notes_here)
-        (after_one (setting_on e w.wanted) (start_on e found w.notes) (second_machine w words) w.place.index n on_end c refl)
+        (after_one (setting_on e w.wanted) (start_on e found w.notes) (machine_in Reading w words) w.place.index n on_end c refl)
 
     -- and asked no less than a first pass would, with the closing test where it halted
     asked_one : (n : ℕ) → ComesOn e w e.taken words (Next w.place.index) n → first_weighed (setting_on e w.wanted) (start_on e e.taken w.notes) n + 0 ≤ asked →
@@ -238,8 +238,8 @@ module _ (e : CallContext) (w : Workspace) (words : List ℕ) where
     asked_one n c before =
         let g : Setting = setting_on e w.wanted in
         let x : After = after g (start_on e e.taken w.notes) n in
-        let here : weighed_in (making g) x.machine x.outcome ≡ weighed (step_tree (making g) w.place.index (second_machine w words)) = ap (λ (x : After). weighed_in (making g) x.machine x.outcome) c in
-        let fewer : weighed (step_tree (making g) w.place.index (second_machine w words)) ≤ weighed (on_step e w words) = making_asks g w.place.index (second_machine w words) refl going in
+        let here : weighed_in (making g) x.machine x.outcome ≡ weighed (step_tree (making g) w.place.index (machine_in Reading w words)) = ap (λ (x : After). weighed_in (making g) x.machine x.outcome) c in
+        let fewer : weighed (step_tree (making g) w.place.index (machine_in Reading w words)) ≤ weighed (on_step e w words) = making_asks g w.place.index (machine_in Reading w words) refl going in
         let all : first_weighed g (start_on e e.taken w.notes) n + weighed_in (making g) x.machine x.outcome + asked_behind on_end.outcome ≤ later = omega (arith, before, here, fewer, le) in
         subst (λ (k : Notes). first_weighed (setting_on e w.wanted) (start_on e e.taken k) (suc n) + asked_behind on_end.outcome ≤ later) (sym notes_here) all
 
@@ -255,7 +255,7 @@ module _ (e : CallContext) (w : Workspace) (words : List ℕ) where
         Damaged end (was_honest e w on_end.machine done want to asked later least notes_here end was) p c stands found not (suc n) (comes_one found n comes)
     goes_honestly (Struck end was off) =
         Struck end (was_honest e w on_end.machine done want to asked later least notes_here end was)
-        (effect_off e.taken (second_machine w words) on_end.machine (honest_effect (setting_on e w.wanted) w.place.index (second_machine w words)) off)
+        (effect_off e.taken (machine_in Reading w words) on_end.machine (honest_effect (setting_on e w.wanted) w.place.index (machine_in Reading w words)) off)
 
 -- The comparison behind it.
 
@@ -276,20 +276,20 @@ module _ (e : CallContext) (trusted : IsTrusted e) (w : Workspace) (m : Machine)
 
   -- the next statement
   next_well : (i : ℕ) → SecondStruck e (behind w m w.gate.done w.want (at Second i)) m.words (Next i) later →
-      ActsWell e Second later (acted (with_second w m) m.words (Leads (at Second i)))
-  next_well i s = record { wants = wants_none (Some m.words) (with_second w m); once = Stays right nothing; ends = Onward right s }
+      ActsWell e Second later (acted (with_machine Reading w m) m.words (Leads (at Second i)))
+  next_well i s = record { wants = wants_none (Some m.words) (with_machine Reading w m); once = Stays right nothing; ends = Onward right s }
 
   -- the statement aborts
-  bad_well : (cause : AbortCause) → ActsWell e Second later (acted (with_second w m) m.words (Aborts cause))
-  bad_well cause = record { wants = wants_none (Some m.words) (with_second w m); once = Stays right nothing; ends = tt }
+  bad_well : (cause : AbortCause) → ActsWell e Second later (acted (with_machine Reading w m) m.words (Aborts cause))
+  bad_well cause = record { wants = wants_none (Some m.words) (with_machine Reading w m); once = Stays right nothing; ends = tt }
 
   -- the gate found another number
-  lost_well : ActsWell e Second later (acted (record (with_second w m) { gate = record { done = w.gate.done } }) m.words (Aborts (Gate w.gate.done)))
-  lost_well = record { wants = wants_none (Some m.words) (with_second w m); once = Stays right nothing; ends = tt }
+  lost_well : ActsWell e Second later (acted (record (with_machine Reading w m) { gate = record { done = w.gate.done } }) m.words (Aborts (Gate w.gate.done)))
+  lost_well = record { wants = wants_none (Some m.words) (with_machine Reading w m); once = Stays right nothing; ends = tt }
 
   -- the pass is closed
   halt_well : SecondStruck e (behind w m (risen w.gate.done) Nothing (at Compare 0)) m.words Halted later →
-      ActsWell e Second later (acted (closed (with_second w m)) m.words (Leads (at Compare 0)))
+      ActsWell e Second later (acted (closed (with_machine Reading w m)) m.words (Leads (at Compare 0)))
   halt_well s = record {
     wants = tt;
     once = Closes Second refl (ap risen right) refl;
@@ -298,10 +298,10 @@ module _ (e : CallContext) (trusted : IsTrusted e) (w : Workspace) (m : Machine)
 
   -- whichever of them it is
   ends_well : (o : Outcome) → ((done : ℕ) (want : Want) (to : Place) → IsGoing o → SecondStruck e (behind w m done want to) m.words o later) →
-      ActsWell e Second later (honest (second_from (with_second w m) m.words o))
+      ActsWell e Second later (honest (pass_from Reading (with_machine Reading w m) m.words o))
   ends_well (Next i) f = next_well i (f w.gate.done w.want (at Second i) tt)
   ends_well Halted f =
-      subst (ActsWell e Second later) (sym (closes_in_step Second (with_second w m) m.words (at Compare 0) right))
+      subst (ActsWell e Second later) (sym (closes_in_step Second (with_machine Reading w m) m.words (at Compare 0) right))
       (halt_well (f (risen w.gate.done) Nothing (at Compare 0) tt))
   ends_well (Bad cause) f = bad_well cause
 
@@ -357,7 +357,7 @@ module _ (e : CallContext) (w : Workspace) (lent : Option (List ℕ)) (steps ask
       ap (λ (b : ℕ). after (setting_on e b) (start_on e e.taken w.notes) h.n) aimed.wanted
       ∙ ap (λ (k : Notes). after (second_setting e) (renoted k (first_start e)) h.n) h.first.notes
       ∙ h.comes
-      ∙ ap (λ (ws : List ℕ). let x : After = record { machine = second_machine w ws; outcome = Next w.place.index } in x) (same_Some h.words words (sym h.lent_are ∙ are))
+      ∙ ap (λ (ws : List ℕ). let x : After = record { machine = machine_in Reading w ws; outcome = Next w.place.index } in x) (same_Some h.words words (sym h.lent_are ∙ are))
 
   -- and has asked no less than a first pass would there
   clean_asked : (words : List ℕ) → lent ≡ Some words → first_weighed (setting_on e w.wanted) (start_on e e.taken w.notes) h.n ≤ asked
@@ -382,19 +382,19 @@ module _ (e : CallContext) (w : Workspace) (lent : Option (List ℕ)) (steps ask
 module _ (e : CallContext) (trusted : IsTrusted e) (now : ℕ) (w : Workspace) (words : List ℕ) (asked : ℕ) (nothing : w.want ≡ Nothing) (right : w.gate.done ≡ phase_number Second)
     (s : SecondStruck e w words (Next w.place.index) asked) where
   abbrev WellBy : Tree After → Type 0
-  WellBy t = ActsWell e Second (asked + weighed (bound t (second_to w))) (honest (bound t (second_to w)))
+  WellBy t = ActsWell e Second (asked + weighed (bound t (pass_to Reading w))) (honest (bound t (pass_to Reading w)))
 
   honest_ends : WellBy (on_step e w words)
   honest_ends =
       let x : After = on_end e w words in
-      let all = weighed_bound (on_step e w words) (second_to w) in
-      let later : ℕ = asked + weighed (bound (on_step e w words) (second_to w)) in
-      let closing = second_behind (with_second w x.machine) x.machine.words x.outcome in
+      let all = weighed_bound (on_step e w words) (pass_to Reading w) in
+      let later : ℕ = asked + weighed (bound (on_step e w words) (pass_to Reading w)) in
+      let closing = pass_behind Reading (with_machine Reading w x.machine) x.machine.words x.outcome in
       let le : asked + (weighed (on_step e w words) + asked_behind x.outcome) ≤ later = omega (arith, all, closing) in
-      subst (ActsWell e Second later) (sym (honest_bound (on_step e w words) (second_to w)))
+      subst (ActsWell e Second later) (sym (honest_bound (on_step e w words) (pass_to Reading w)))
       (ends_well e trusted w x.machine later nothing right x.outcome (λ done want to going. goes_honestly e w words done want to asked later le going s))
 
-  honest_acts : w.sealed ≡ e.sealed → WellBy (step_tree (setting_in (given_for e Second w.wanted) Reading w.sealed now) w.place.index (second_machine w words))
+  honest_acts : w.sealed ≡ e.sealed → WellBy (step_tree (setting_in (given_for e Second w.wanted) Reading w.sealed now) w.place.index (machine_in Reading w words))
   honest_acts is = subst WellBy (sym (step_is e now w words is)) honest_ends
 
 -- An act of a clean traversal in which a strike falls.
@@ -408,11 +408,11 @@ module _ (e : CallContext) (trusted : IsTrusted e) (now : ℕ) (w : Workspace) (
   off_here = subst (λ (ws : List ℕ). SameOff w.second_log.items ws e.taken) (sym (same_Some words h.words h.lent_are)) (clean_off e w (Some words) steps asked h aimed)
 
   -- in the statement
-  in_statement : (x : After) (m : ℕ) → StruckRun (on_step e w words) x m → y ≡ honest (second_to w x) → ActsWell e Second (asked + n) y
+  in_statement : (x : After) (m : ℕ) → StruckRun (on_step e w words) x m → y ≡ honest (pass_to Reading w x) → ActsWell e Second (asked + n) y
   in_statement x m s is =
-      let kept : x.machine.notes ≡ w.notes = always_struck (λ (y : After). y.machine.notes ≡ w.notes) (on_step e w words) x m (notes_kept (setting_on e w.wanted) w.place.index (second_machine w words) refl) s in
+      let kept : x.machine.notes ≡ w.notes = always_struck (λ (y : After). y.machine.notes ≡ w.notes) (on_step e w words) x m (notes_kept (setting_on e w.wanted) w.place.index (machine_in Reading w words) refl) s in
       let off : SameOff x.machine.log.items x.machine.words e.taken =
-      struck_off e.taken (setting_on e w.wanted) w.place.index (second_machine w words) x m (struck_effect (setting_on e w.wanted) w.place.index (second_machine w words) x m s) off_here in
+      struck_off e.taken (setting_on e w.wanted) w.place.index (machine_in Reading w words) x m (struck_effect (setting_on e w.wanted) w.place.index (machine_in Reading w words) x m s) off_here in
       let was : WasHonest e w h.end asked = clean_was e w (Some words) steps asked h aimed w aimed refl refl refl in
       subst (ActsWell e Second (asked + n)) (sym is)
       (ends_well e trusted w x.machine (asked + n) nothing right x.outcome
@@ -420,15 +420,15 @@ module _ (e : CallContext) (trusted : IsTrusted e) (now : ℕ) (w : Workspace) (
 
   -- in the closing behind Halt
   in_closing : (m : ℕ) (o : Outcome) → (on_end e w words).outcome ≡ o → weighed (on_step e w words) + m ≤ n →
-      StruckRun (second_from (with_second w (on_end e w words).machine) (on_end e w words).machine.words o) y m → ActsWell e Second (asked + n) y
+      StruckRun (pass_from Reading (with_machine Reading w (on_end e w words).machine) (on_end e w words).machine.words o) y m → ActsWell e Second (asked + n) y
   in_closing m (Next i) is le s = absurd s
   in_closing m (Bad cause) is le s = absurd s
-  in_closing m Halted is le s = by_case (closing_struck Second (with_second w (on_end e w words).machine) (on_end e w words).machine.words (at Compare 0) y m s)
+  in_closing m Halted is le s = by_case (closing_struck Second (with_machine Reading w (on_end e w words).machine) (on_end e w words).machine.words (at Compare 0) y m s)
     where
       asks : asked + (weighed (on_step e w words) + asked_behind (on_end e w words).outcome) ≤ asked + n
       asks =
           let one : asked_behind (on_end e w words).outcome ≡ 1 = ap asked_behind is in
-          let test : 1 ≤ m = closing_counts Second (with_second w (on_end e w words).machine) (on_end e w words).machine.words (at Compare 0) y m s in
+          let test : 1 ≤ m = closing_counts Second (with_machine Reading w (on_end e w words).machine) (on_end e w words).machine.words (at Compare 0) y m s in
           omega (arith, one, test, le)
 
       good : SecondStruck e (behind w (on_end e w words).machine (risen w.gate.done) Nothing (at Compare 0)) (on_end e w words).machine.words Halted (asked + n)
@@ -437,19 +437,19 @@ module _ (e : CallContext) (trusted : IsTrusted e) (now : ℕ) (w : Workspace) (
           (goes_honestly e w words (risen w.gate.done) Nothing (at Compare 0) asked (asked + n) asks (subst IsGoing (sym is) tt)
           (clean_good e w (Some words) steps asked h aimed words refl))
 
-      by_case : Closings Second (with_second w (on_end e w words).machine) (on_end e w words).machine.words (at Compare 0) y → ActsWell e Second (asked + n) y
+      by_case : Closings Second (with_machine Reading w (on_end e w words).machine) (on_end e w words).machine.words (at Compare 0) y → ActsWell e Second (asked + n) y
       by_case (inl p) = subst (ActsWell e Second (asked + n)) (sym p) (halt_well e trusted w (on_end e w words).machine (asked + n) nothing right good)
       by_case (inr p) = subst (ActsWell e Second (asked + n)) (sym p) (lost_well e trusted w (on_end e w words).machine (asked + n) nothing right)
 
-  struck_case : StruckBound (on_step e w words) (second_to w) y n → ActsWell e Second (asked + n) y
+  struck_case : StruckBound (on_step e w words) (pass_to Reading w) y n → ActsWell e Second (asked + n) y
   struck_case (Before x m s is counts) = in_statement x m s is
   struck_case (Behind m s counts) = in_closing m (on_end e w words).outcome refl (omega (arith, counts)) s
 
-  struck_acts : StruckRun (bound (step_tree (setting_in (given_for e Second w.wanted) Reading w.sealed now) w.place.index (second_machine w words)) (second_to w)) y n →
+  struck_acts : StruckRun (bound (step_tree (setting_in (given_for e Second w.wanted) Reading w.sealed now) w.place.index (machine_in Reading w words)) (pass_to Reading w)) y n →
       ActsWell e Second (asked + n) y
   struck_acts s =
-      struck_case (struck_bound (on_step e w words) (second_to w) y n
-      (subst (λ (t : Tree After). StruckRun (bound t (second_to w)) y n) (step_is e now w words h.is.sealed) s))
+      struck_case (struck_bound (on_step e w words) (pass_to Reading w) y n
+      (subst (λ (t : Tree After). StruckRun (bound t (pass_to Reading w)) y n) (step_is e now w words h.is.sealed) s))
 
 pub second_laws : (e : CallContext) → IsTrusted e → PhaseLaws e Second
 second_laws e trusted = record {

@@ -24,7 +24,7 @@ use Rattle.sei_traverse.specs.declared.turned.State.TheVariants.{Went, Refused}
 use Rattle.sei_traverse.specs.declared.turned.Want.TheVariants.{Nothing}
 use Rattle.sei_traverse.specs.declared.workspace.Ending.TheVariants.{Leads, Refuses}
 use Rattle.sei_traverse.specs.declared.workspace.Workspace.{Workspace}
-use Rattle.sei_traverse.specs.Acts.{Acted, acted, at}
+use Rattle.sei_traverse.specs.Acts.{Acted, acted, at, next_phase}
 use Rattle.sei_traverse.specs.CallContext.{CallContext, Follows}
 use Rattle.sei_traverse.specs.FaultInvariant.{Knows, StruckCase, Wanted, IsUnfitInput}
 use Rattle.sei_traverse.proofs.ClosesNext.{ClosesNext}
@@ -32,7 +32,7 @@ use Rattle.sei_traverse.specs.FaultInvariant.StruckCase.{Right, Lost}
 use Rattle.sei_traverse.proofs.ClosesNext.ClosesNext.{Closes}
 use Rattle.sei_traverse.specs.OnWay.{lent_words, LendsIn}
 use Rattle.sei_traverse.specs.Given.{Given, has_sealed_call}
-use Rattle.sei_traverse.specs.Step.{StepResult, step_result, aborted, arrival, act_in, act_tree, is_last, next_phase, site_of, skipped, goes, goes_on, once, twice, step_as, step_at}
+use Rattle.sei_traverse.specs.Step.{StepResult, step_result, aborted, arrival, act_in, act_tree, is_last, site_of, skipped, goes, goes_on, once, twice, step_as, step_at}
 use Rattle.sei_traverse.specs.Struck.{HasCopyOfSome, StruckIn}
 use Rattle.sei_traverse.specs.Trusted.{PassesGuard, IsTrusted}
 use Rattle.sei_traverse.specs.Unstruck.{NextIn, CleanIn}
@@ -355,7 +355,7 @@ module _ (e : CallContext) (trusted : IsTrusted e) (laws : (phase : Phase) → (
   in_once x n (Behind m run number) = subst (λ (k : ℕ). EndsAs k x) (sym number) (goes_struck x m run acts_there)
 
   -- a step in which a strike falls ends well
-  pub strikes_well : (site : Option Act) (x : StepResult) (n : ℕ) → StruckRun (step_at g now later w words site) x n → EndsAs n x
+  pub strikes_well : (site : Option Act) (x : StepResult) (n : ℕ) → StruckRun (step_at site g now later w words) x n → EndsAs n x
   strikes_well None x n run = absurd run
   strikes_well (Some act) x n (inl h) =
       let number : n ≡ 0 + weighed (step_as g now later w words act h.answer) = h.asked in
@@ -390,19 +390,19 @@ module _ (e : CallContext) (trusted : IsTrusted e) (laws : (phase : Phase) → (
 
   -- a step at this site whose act ends so
   by_site : (site : Option Act) (act : Act) (y : Acted) → site ≡ Some act → honest (act_tree g now w words) ≡ y → CleanEndsAs (weighed (act_tree g now w words)) (honest (goes_on y)) →
-      CleanEndsAs (weighed (step_at g now later w words site)) (honest (step_at g now later w words site))
+      CleanEndsAs (weighed (step_at site g now later w words)) (honest (step_at site g now later w words))
   by_site site act y is acts well =
       let sum = weighed_bound (act_tree g now w words) goes_on in
       let ends : honest (goes_on y) ≡ honest (once g now w words) = sym (honest_bound (act_tree g now w words) goes_on ∙ ap (λ (z : Acted). honest (goes_on z)) acts) in
       let n : ℕ = 0 + weighed (once g now w words) in
       let more = raised e (CleanStands e (suc steps)) (left_of lent_bucket) (phase_number w.place.phase) (asked + weighed (act_tree g now w words)) (asked + n) (honest (goes_on y)) (omega (arith, sum)) well in
-      subst (λ (o : Option Act). CleanEndsAs (weighed (step_at g now later w words o)) (honest (step_at g now later w words o))) (sym is)
+      subst (λ (o : Option Act). CleanEndsAs (weighed (step_at o g now later w words)) (honest (step_at o g now later w words))) (sym is)
       (subst (λ (x : StepResult). CleanEndsAs n x) ends more)
 
-  pub stays_clean : CleanEndsAs (weighed (step_at g now later w words (site_of e.behavior w))) (honest (step_at g now later w words (site_of e.behavior w)))
+  pub stays_clean : CleanEndsAs (weighed (step_at (site_of e.behavior w) g now later w words)) (honest (step_at (site_of e.behavior w) g now later w words))
   stays_clean = by_act acts_there
     where
-      by_act : CleanAct e now w lent_bucket steps asked w.place.phase → CleanEndsAs (weighed (step_at g now later w words (site_of e.behavior w))) (honest (step_at g now later w words (site_of e.behavior w)))
+      by_act : CleanAct e now w lent_bucket steps asked w.place.phase → CleanEndsAs (weighed (step_at (site_of e.behavior w) g now later w words)) (honest (step_at (site_of e.behavior w) g now later w words))
       by_act (Goes fit a) = by_site (site_of e.behavior w) a.act (acted a.workspace a.left (Leads a.to)) a.site a.acts (clean_goes fit a (weighed (act_tree g now w words)) a.asks)
       by_act (Ends fit last f) = by_site (site_of e.behavior w) f.act (acted f.workspace f.left (Leads (at Done 1))) f.site f.acts (clean_ends fit last f (weighed (act_tree g now w words)))
       by_act (Unfit guard unfit site acts) = by_site (site_of e.behavior w) Plain (acted w words Refuses) site acts (clean_refuses (weighed (act_tree g now w words)) guard unfit)
@@ -425,7 +425,7 @@ module _ (e : CallContext) (laws : (phase : Phase) → (phase ≡ Guard → ⊥)
       (lost_quietly e laws lent_bucket now w (words_of lent_bucket) lost gate fit sealed asked nothing)
 
   pub stays_well : StruckCase e w (lent_words lent_bucket) asked → (w.gate.done ≡ phase_number w.place.phase → LendsIn w.wanted w.place.phase lent_bucket) → (site : Option Act) →
-      StruckEndsAs (weighed (step_at (given_with e lent_bucket) now later w (words_of lent_bucket) site)) (honest (step_at (given_with e lent_bucket) now later w (words_of lent_bucket) site))
+      StruckEndsAs (weighed (step_at site (given_with e lent_bucket) now later w (words_of lent_bucket))) (honest (step_at site (given_with e lent_bucket) now later w (words_of lent_bucket)))
   stays_well stands lends None =
       comes_well e (StruckStands e) (left_of lent_bucket) w.gate.done (asked + 0) asked asked w (words_of lent_bucket) w.place (aborted w.place.phase (Table w.place.index)) (omega arith) (omega arith) tt
       (wants_nothing e (left_of lent_bucket (words_of lent_bucket)) w.gate.done asked w nothing refl)

@@ -14,10 +14,10 @@ use Rattle.sei_traverse.specs.declared.turned.Want.{Want}
 use Rattle.sei_traverse.specs.declared.turned.Want.TheVariants.{Nothing, Take as WantTake, Enter as WantEnter, Give as WantGive}
 use Rattle.sei_traverse.specs.declared.workspace.Workspace.{Workspace}
 use Rattle.sei_traverse.specs.CallContext.{CallContext}
-use Rattle.sei_traverse.specs.FaultInvariant.{IsRight, Wanted, ClosesOnce, IsAborted, Isolates, closing_want}
+use Rattle.sei_traverse.specs.FaultInvariant.{IsRight, Wanted, ClosesOnce, IsAborted, Isolates}
 use Rattle.sei_traverse.specs.FaultInvariant.ClosesOnce.{Stays, Closes, Lacks}
 use Rattle.sei_traverse.specs.OnWay.{lent_words}
-use Rattle.sei_traverse.specs.Phases.{reply_of, send_want}
+use Rattle.sei_traverse.specs.Phases.{reply_of, send_want, closing_want}
 use Rattle.sei_traverse.specs.State.{TraversalState}
 use Rattle.sei_traverse.specs.Struck.{IsHonestResult, On}
 use Rattle.sei_traverse.specs.Wanting.{Steps, is_wanted, wanted_in, all_wants, WantsOnce}

@@ -2,6 +2,7 @@
 use Rattle.std.specs.Prelude.{ℕ, Bool, List, if◌then◌else◌}
 use Rattle.sei_fault.specs.declared.cause.AbortCause.TheVariants.{Gate}
 use Rattle.sei_fault.specs.declared.place.Phase.{Phase}
+use Rattle.sei_fault.specs.declared.place.Phase.TheVariants.{Guard, Take, First, Restore, Second, Compare, Verify, Enter, Give, Send, Done}
 use Rattle.sei_fault.specs.declared.place.Place.{Place}
 use Rattle.sei_fault.specs.Phases.{phase_number}
 use Rattle.sei_fault.specs.Tree.{Tree, bound}
@@ -27,6 +28,20 @@ ends w words e = Ended (acted w words e)
 -- a place by its phase and index
 abbrev pub at : Phase → ℕ → Place
 at phase index = record { phase = phase; index = index }
+
+-- the phase after this one; after the last one there is none
+abbrev pub next_phase : Phase → Phase
+next_phase Guard = Take
+next_phase Take = First
+next_phase First = Restore
+next_phase Restore = Second
+next_phase Second = Compare
+next_phase Compare = Verify
+next_phase Verify = Enter
+next_phase Enter = Give
+next_phase Give = Send
+next_phase Send = Done
+next_phase Done = Done
 
 -- behind the closing test of a gate: where it was answered yes, the act goes on; else it aborts
 abbrev pub closed_to : Workspace → List ℕ → (Workspace → Tree Acted) → Bool × ℕ → Tree Acted

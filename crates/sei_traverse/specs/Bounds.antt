@@ -36,7 +36,11 @@ made_by w = w.first.made + w.second.made
 abbrev pub reached : PassSpace → Workspace → ℕ
 reached space w = made_by w + place_number space w.place.phase w.place.index
 
--- so many steps are made at most, with one strike: a strike leads back by the last number at most
+-- n steps are made at most without a strike
+abbrev pub honest_steps : PassSpace → ℕ
+honest_steps space = 2 * space.budget + 3 * space.log + 11
+
+-- n steps are made at most, with one strike: a strike leads back by the last number at most
 abbrev pub most_steps : PassSpace → ℕ
 most_steps space = 2 * space.budget + 6 * space.log + 26
 

@@ -12,7 +12,7 @@ use Rattle.sei_traverse.specs.declared.turned.Want.TheVariants.{Nothing, Take as
 use Rattle.sei_traverse.specs.declared.workspace.Workspace.{Workspace}
 use Rattle.sei_traverse.specs.CallContext.{CallContext, given_in}
 use Rattle.sei_traverse.specs.OnWay.{lent_words, LendsIn, LendsBucket, IsClean, IsCleanEnd}
-use Rattle.sei_traverse.specs.Phases.{reply_of, send_want}
+use Rattle.sei_traverse.specs.Phases.{reply_of, closing_want}
 use Rattle.sei_traverse.specs.Given.{FailsGuard}
 use Rattle.sei_traverse.specs.State.{TraversalState}
 use Rattle.sei_traverse.specs.Struck.{IsAimed, IsHonestResult, On, HasCopyOfSome, StruckIn}
@@ -79,21 +79,14 @@ Wanted e w lent asked WantEnter = On lent (λ words. IsHonestResult e w words as
 Wanted e w lent asked WantGive = On lent (λ words. IsHonestResult e w words asked)
 Wanted e w lent asked WantSend = HasCopyOfSome e w asked × (reply_of w ≢ [])
 
--- what is wanted where a phase is closed
-abbrev pub closing_want : Workspace → Phase → Want
-closing_want w Take = WantTake w.wanted
-closing_want w Enter = WantEnter
-closing_want w Give = WantGive
-closing_want w Send = send_want (reply_of w)
-closing_want w phase = Nothing
-
 -- from the old workspace to the new one no phase was closed, and nothing is wanted; or the phase of the old place was closed,
 -- which was the next one, and what is wanted there; or Take was closed and the wanted bucket is not there, and so it ended.
 -- As the number never falls, each is wanted at most once, and where it has passed 8, 9 and 10, Enter and Give were wanted,
 -- and Send where the reply is not empty
 pub data ClosesOnce (e : CallContext) (old new : Workspace) (ended : Type 0) : Type 0 where
   Stays : new.gate.done ≡ old.gate.done → new.want ≡ Nothing → ClosesOnce e old new ended
-  Closes : (phase : Phase) → old.place.phase ≡ phase → old.gate.done ≡ phase_number phase → new.gate.done ≡ old.gate.done + 1 → new.want ≡ closing_want new phase → ClosesOnce e old new ended
+  Closes : (phase : Phase) → old.place.phase ≡ phase → old.gate.done ≡ phase_number phase → new.gate.done ≡ old.gate.done + 1 →
+      new.want ≡ closing_want new phase → ClosesOnce e old new ended
   Lacks : old.gate.done ≡ 1 → new.gate.done ≡ 2 → new.want ≡ Nothing → e.space.geometry.buckets ≤ new.wanted → ended → ClosesOnce e old new ended
 
 -- the step aborts

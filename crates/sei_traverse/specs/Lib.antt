@@ -4,6 +4,7 @@ pub mod Acts
 pub mod Phases
 pub mod PassActs
 pub mod Step
+pub mod Work
 pub mod Noting
 pub mod Comes
 pub mod Workspaces
@@ -19,3 +20,4 @@ pub mod FaultInvariant
 pub mod Bounds
 pub mod Wanting
 pub mod Running
+pub mod Promises

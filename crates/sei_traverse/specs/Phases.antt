@@ -6,7 +6,9 @@ use Rattle.sei_code.specs.Kept.{emptied}
 use Rattle.mc_model.specs.declared.geometry.Geometry.{Geometry}
 use Rattle.sei_fault.specs.declared.cause.AbortCause.{AbortCause}
 use Rattle.sei_fault.specs.declared.cause.AbortCause.TheVariants.{Range, Differs, Reply as Replies, Wire as Wires}
+use Rattle.sei_fault.specs.declared.place.Phase.{Phase}
 use Rattle.sei_fault.specs.declared.place.Phase.TheVariants.{Guard, Take, First, Restore, Second, Compare, Verify, Enter, Give, Send, Done}
+use Rattle.sei_fault.specs.declared.place.Place.{Place}
 use Rattle.sei_fault.specs.Question.Question.{Value, Written, Test}
 use Rattle.sei_fault.specs.Tree.{Tree, bound}
 use Rattle.sei_fault.specs.Tree.Tree.{Ask}
@@ -18,7 +20,7 @@ use Rattle.sei_traverse.specs.declared.turned.Want.{Want}
 use Rattle.sei_traverse.specs.declared.turned.Want.TheVariants.{Nothing, Take as WantTake, Enter as WantEnter, Give as WantGive, Send as WantSend}
 use Rattle.sei_traverse.specs.declared.workspace.Ending.TheVariants.{Leads, Refuses, Aborts}
 use Rattle.sei_traverse.specs.declared.workspace.Workspace.{Workspace}
-use Rattle.sei_traverse.specs.Acts.{Acted, ends, at, closing_then, closes}
+use Rattle.sei_traverse.specs.Acts.{Acted, ends, at, next_phase, closing_then, closes}
 use Rattle.sei_traverse.specs.Given.{Given, has_sealed_call, bucket_of_call}
 
 -- Guard: the input is the sealed one, and one whole request with the sealed call; otherwise it is refused
@@ -42,8 +44,11 @@ take_wanted g words w =
     then ends (record w { want = WantTake w.wanted }) words (Leads (at First 0))
     else ends w words (Aborts (Range w.wanted))
 
+abbrev pub take_closing : Geometry → Workspace → List ℕ → Tree Acted
+take_closing g w words = closing_then Take w words (take_wanted g words)
+
 abbrev pub take_tree : Given → ℕ → Workspace → List ℕ → Tree Acted
-take_tree g index w words = if index == 0 then store_wanted g w words else closing_then Take w words (take_wanted g.space.geometry words)
+take_tree g index w words = if index == 0 then store_wanted g w words else take_closing g.space.geometry w words
 
 -- Restore: the changes of the first log are undone, the last one first
 
@@ -54,10 +59,13 @@ undone_as w words index (Some cause) = ends w words (Aborts cause)
 abbrev pub undone_to : Workspace → ℕ → Undone → Tree Acted
 undone_to w index u = undone_as w u.words index u.cause
 
+abbrev pub undo_tree : ℕ → Workspace → List ℕ → Tree Acted
+undo_tree index w words = bound (undo_at words (slice_get w.first_log.items (length w.first_log.items - 1 - index))) (undone_to w index)
+
 abbrev pub restore_tree : ℕ → Workspace → List ℕ → Tree Acted
 restore_tree index w words =
     if nat_lt index (length w.first_log.items)
-    then bound (undo_at words (slice_get w.first_log.items (length w.first_log.items - 1 - index))) (undone_to w index)
+    then undo_tree index w words
     else closes Restore w words Nothing (at Second 0)
 
 -- Compare: the entries of both logs, one by one, and then the outputs
@@ -72,11 +80,14 @@ entries_to w words index same = if same then ends w words (Leads (at Compare (in
 abbrev pub outputs_to : Workspace → List ℕ → Bool → Tree Acted
 outputs_to w words same = if same then closes Compare w words Nothing (at Verify 0) else ends w words (Aborts Replies)
 
+abbrev pub entries_tree : ℕ → Workspace → List ℕ → Tree Acted
+entries_tree index w words = bound (entry_tree w.first_log.items w.second_log.items index) (entries_to w words index)
+
+abbrev pub outputs_tree : Workspace → List ℕ → Tree Acted
+outputs_tree w words = bound (codes_tree w.first.code w.first.bytes.items w.second.code w.second.bytes.items) (outputs_to w words)
+
 abbrev pub compare_tree : ℕ → Workspace → List ℕ → Tree Acted
-compare_tree index w words =
-    if nat_lt index (compared w)
-    then bound (entry_tree w.first_log.items w.second_log.items index) (entries_to w words index)
-    else bound (codes_tree w.first.code w.first.bytes.items w.second.code w.second.bytes.items) (outputs_to w words)
+compare_tree index w words = if nat_lt index (compared w) then entries_tree index w words else outputs_tree w words
 
 -- Verify: each changed word is read back, then the copy for the wire is made anew, and tested
 
@@ -97,32 +108,40 @@ copy_bytes w words index (byte ∷ bytes) =
 abbrev pub wire_to : Workspace → List ℕ → Bool → Tree Acted
 wire_to w words same = if same then closes Verify w words Nothing (at Enter 0) else ends w words (Aborts Wires)
 
+abbrev pub copy_tree : ℕ → Workspace → List ℕ → Tree Acted
+copy_tree index w words = copy_bytes w words index (reply_of w)
+
+abbrev pub copy_test : Workspace → List ℕ → Tree Acted
+copy_test w words = bound (wire_tree w.sealed.answer w.first.code w.first.bytes.items w.wire.items) (wire_to w words)
+
 abbrev pub verify_copy : ℕ → Workspace → List ℕ → Tree Acted
-verify_copy index w words =
-    if index == length w.second_log.items
-    then copy_bytes w words index (reply_of w)
-    else bound (wire_tree w.sealed.answer w.first.code w.first.bytes.items w.wire.items) (wire_to w words)
+verify_copy index w words = if index == length w.second_log.items then copy_tree index w words else copy_test w words
+
+abbrev pub read_back : ℕ → Workspace → List ℕ → Tree Acted
+read_back index w words = bound (word_at words (slice_get w.second_log.items index)) (word_to w words index)
 
 abbrev pub verify_tree : ℕ → Workspace → List ℕ → Tree Acted
-verify_tree index w words =
-    if nat_lt index (length w.second_log.items)
-    then bound (word_at words (slice_get w.second_log.items index)) (word_to w words index)
-    else verify_copy index w words
+verify_tree index w words = if nat_lt index (length w.second_log.items) then read_back index w words else verify_copy index w words
 
--- Enter, Give and Send are closed, each with its want, and Done, which wants nothing; a reply that is empty is not sent
+-- Enter, Give, Send and Done are only closed, each with its want
 
+-- a reply that is empty is not sent
 abbrev pub send_want : List ℕ → Want
 send_want [] = Nothing
 send_want (byte ∷ bytes) = WantSend
 
-abbrev pub enter_tree : Workspace → List ℕ → Tree Acted
-enter_tree w words = closes Enter w words WantEnter (at Give 0)
+-- what is wanted where a phase is closed
+abbrev pub closing_want : Workspace → Phase → Want
+closing_want w Take = WantTake w.wanted
+closing_want w Enter = WantEnter
+closing_want w Give = WantGive
+closing_want w Send = send_want (reply_of w)
+closing_want w phase = Nothing
 
-abbrev pub give_tree : Workspace → List ℕ → Tree Acted
-give_tree w words = closes Give w words WantGive (at Send 0)
+-- where that leads: to the next phase, and from Done to the end
+abbrev pub closing_place : Phase → Place
+closing_place Done = at Done 1
+closing_place phase = at (next_phase phase) 0
 
-abbrev pub send_tree : Workspace → List ℕ → Tree Acted
-send_tree w words = closes Send w words (send_want (reply_of w)) (at Done 0)
-
-abbrev pub done_tree : Workspace → List ℕ → Tree Acted
-done_tree w words = closes Done w words Nothing (at Done 1)
+abbrev pub closing_tree : Phase → Workspace → List ℕ → Tree Acted
+closing_tree phase w words = closes phase w words (closing_want w phase) (closing_place phase)

@@ -1,11 +1,11 @@
 -- Many steps of a traversal.
-use Rattle.std.specs.Prelude.{◌≡◌, ℕ, suc, ◌+◌, ◌-◌, ◌^◌, ◌≤◌, Bool, true, false, List, Option, min}
+use Rattle.std.specs.Prelude.{◌≡◌, ℕ, suc, ◌+◌, ◌-◌, ◌^◌, ◌<◌, ◌≤◌, Bool, true, false, List, Option, min}
 use Rattle.sei_fault.specs.Chain.{Chain}
 use Rattle.sei_fault.specs.Counts.{Counts}
 use Rattle.sei_fault.specs.Question.{Question, Answer}
 use Rattle.sei_fault.specs.Tree.{Tree, bound}
 use Rattle.sei_fault.specs.Tree.Tree.{Done as Ended}
-use Rattle.sei_words.specs.LentBucket.{words_of, bucket_of, place_of}
+use Rattle.sei_words.specs.LentBucket.{place_of}
 use Rattle.sei_words.specs.Words.{BucketWords}
 use Rattle.sei_pass.specs.declared.loops.Exit.{Exit}
 use Rattle.sei_pass.specs.declared.loops.Exit.TheVariants.{At, Halted, Bad, Struck, Alone}
@@ -16,12 +16,13 @@ use Rattle.sei_traverse.specs.declared.turned.State.TheVariants.{Went}
 use Rattle.sei_traverse.specs.declared.turned.Turned.{Turned}
 use Rattle.sei_traverse.specs.declared.turned.Want.TheVariants.{Nothing}
 use Rattle.sei_traverse.specs.declared.workspace.Workspace.{Workspace}
-use Rattle.sei_traverse.specs.Acts.{at, closes}
+use Rattle.sei_traverse.specs.Acts.{at, closes, next_phase}
 use Rattle.sei_traverse.specs.Noting.{NotesTime}
-use Rattle.sei_traverse.specs.Given.{Given, given_of}
+use Rattle.sei_traverse.specs.Given.{Given}
 use Rattle.sei_stmt.specs.Handling.{Behavior}
 use Rattle.sei_traverse.specs.State.{TraversalState, IsTraversal, one_more, is_running}
-use Rattle.sei_traverse.specs.Step.{StepResult, step_result, aborted, next_phase, arrival, goes_on, step_as, traversal_step, TimedTwice}
+use Rattle.sei_traverse.specs.Step.{StepResult, step_result, aborted, arrival, goes_on, step_as, traversal_step}
+use Rattle.sei_traverse.specs.Work.{Work, work, ComesTo, TurnsAs}
 
 -- a traversal, what is lent to it, and its core
 pub record On (S : Type 0) : Type 0 where
@@ -32,17 +33,21 @@ pub record On (S : Type 0) : Type 0 where
 abbrev pub on : {S : Type 0} → TraversalState → Option BucketWords → S → On S
 on traversal lent core = record { traversal = traversal; lent = lent; core = core }
 
+abbrev pub work_on : {S : Type 0} → On S → Work S
+work_on x = work x.traversal.workspace x.lent x.core
+
 -- one step of the definition, whatever the core answers, which leads there and turned out so
 pub record StepsTo {S : Type 0} (gives : S → (q : Question) → Answer q → S → Type 0) (told : Option ℕ) (behavior : Behavior) (input : List ℕ) (x y : On S) (state : State) : Type 0 where
-  pub turned : TimedTwice gives told (λ now later. traversal_step (given_of behavior input x.traversal.space (bucket_of x.lent)) now later x.traversal.workspace (words_of x.lent)) x.core y.core (step_result y.traversal.workspace (words_of y.lent) state)
+  pub turned : TurnsAs gives told behavior input x.traversal.space traversal_step (work_on x) (work_on y) state
   pub lent : place_of y.lent ≡ place_of x.lent
   pub sealed : y.traversal.workspace.sealed ≡ x.traversal.workspace.sealed
   pub space : y.traversal.space ≡ x.traversal.space
   pub steps : y.traversal.steps ≡ one_more x.traversal.steps
 
 -- all that holds of such a step, as the code makes it
-pub record Makes {S : Type 0} (gives : S → (q : Question) → Answer q → S → Type 0) (counts : S → Counts) (told : Option ℕ) (behavior : Behavior) (input : List ℕ) (x y : On S) (t : Turned) : Type 0 where
-  pub turned : TimedTwice gives told (λ now later. traversal_step (given_of behavior input x.traversal.space (bucket_of x.lent)) now later x.traversal.workspace (words_of x.lent)) x.core y.core (step_result y.traversal.workspace (words_of y.lent) t.state)
+pub record Makes {S : Type 0} (gives : S → (q : Question) → Answer q → S → Type 0) (counts : S → Counts) (told : Option ℕ) (behavior : Behavior) (input : List ℕ)
+    (x y : On S) (t : Turned) : Type 0 where
+  pub turned : TurnsAs gives told behavior input x.traversal.space traversal_step (work_on x) (work_on y) t.state
   pub want : t.want ≡ y.traversal.workspace.want
   pub lent : place_of y.lent ≡ place_of x.lent
   pub sealed : y.traversal.workspace.sealed ≡ x.traversal.workspace.sealed
@@ -62,7 +67,8 @@ abbrev pub Quiet : {S : Type 0} → (S → (q : Question) → Answer q → S →
 Quiet gives counts told behavior input x y = Makes gives counts told behavior input x y (record { want = Nothing; state = Went })
 
 -- n quiet steps, and one more that turned out so
-pub record RunsOn {S : Type 0} (gives : S → (q : Question) → Answer q → S → Type 0) (counts : S → Counts) (told : Option ℕ) (behavior : Behavior) (input : List ℕ) (n : ℕ) (x z : On S) (t : Turned) : Type 0 where
+pub record RunsOn {S : Type 0} (gives : S → (q : Question) → Answer q → S → Type 0) (counts : S → Counts) (told : Option ℕ) (behavior : Behavior) (input : List ℕ)
+    (n : ℕ) (x z : On S) (t : Turned) : Type 0 where
   pub last : On S
   pub chain : Chain (Quiet gives counts told behavior input) n x last
   pub makes : Makes gives counts told behavior input last z t
@@ -75,23 +81,32 @@ begun_at w space steps = record { workspace = w; space = space; steps = steps; r
 abbrev pub left_at : Workspace → PassSpace → ℕ → Many → TraversalState
 left_at w space steps many = record { workspace = w; space = space; steps = min (steps + suc many.before) (2 ^ 64 - 1); running = is_running many.turned.state }
 
+-- such a run, however many steps were made before it
+abbrev pub RunsAs : {S : Type 0} → (S → (q : Question) → Answer q → S → Type 0) → (S → Counts) →
+    Option ℕ → Behavior → List ℕ → PassSpace → Work S → Work S → Many → Type 0
+RunsAs gives counts told behavior input space x y many =
+    (steps : ℕ) → steps < 2 ^ 64 → RunsOn gives counts told behavior input many.before
+    (on (begun_at x.workspace space steps) x.lent x.core) (on (left_at y.workspace space steps many) y.lent y.core) many.turned
+
+-- the phase is closed, and the traversal goes on to the next one
+abbrev pub halted_tree : Workspace → List ℕ → Tree StepResult
+halted_tree w words = bound (closes w.place.phase w words Nothing (at (next_phase w.place.phase) 0)) goes_on
+
 -- what is left to do of a step of a pass if the loop over its steps left it so. The place is still that of the step
-abbrev pub rest : Given → ℕ → ℕ → Workspace → List ℕ → Exit → Tree StepResult
-rest g now later w words (At p) = Ended (step_result (record w { place = p }) words (arrival w.place.phase p w.gate.done))
-rest g now later w words Halted = bound (closes w.place.phase w words Nothing (at (next_phase w.place.phase) 0)) goes_on
-rest g now later w words (Bad cause) = Ended (step_result w words (aborted w.place.phase cause))
-rest g now later w words (Struck act times) = step_as g now later w words act times
-rest g now later w words Alone = traversal_step g now later w words
+abbrev pub rest : Exit → Given → ℕ → ℕ → Workspace → List ℕ → Tree StepResult
+rest (At p) g now later w words = Ended (step_result (record w { place = p }) words (arrival w.place.phase p w.gate.done))
+rest Halted g now later w words = halted_tree w words
+rest (Bad cause) g now later w words = Ended (step_result w words (aborted w.place.phase cause))
+rest (Struck act times) g now later w words = step_as g now later w words act times
+rest Alone g now later w words = traversal_step g now later w words
 
 -- a step that was begun: it is whole, and the traversal goes on, or whatever does what is left of it makes it whole
-abbrev pub Begins : {S : Type 0} → (S → (q : Question) → Answer q → S → Type 0) → Option ℕ → Behavior → List ℕ → PassSpace → Workspace → Option BucketWords → S → Workspace → Option BucketWords → S → Exit → Bool → Type 0
-Begins gives told behavior input space w lent_bucket c v mid d exit true =
-    TimedTwice gives told (λ now later. traversal_step (given_of behavior input space (bucket_of lent_bucket)) now later w (words_of lent_bucket)) c d (step_result v (words_of mid) Went)
-Begins gives told behavior input space w lent_bucket c v mid d exit false =
-    (f : _) (z : StepResult) → TimedTwice gives told (λ now later. rest (given_of behavior input space (bucket_of mid)) now later v (words_of mid) exit) d f z →
-    TimedTwice gives told (λ now later. traversal_step (given_of behavior input space (bucket_of lent_bucket)) now later w (words_of lent_bucket)) c f z
+abbrev pub Begins : {S : Type 0} → (S → (q : Question) → Answer q → S → Type 0) → Option ℕ → Behavior → List ℕ → PassSpace → Work S → Work S → Exit → Bool → Type 0
+Begins gives told behavior input space x y exit true = TurnsAs gives told behavior input space traversal_step x y Went
+Begins gives told behavior input space x y exit false =
+    (core : _) (z : StepResult) → ComesTo gives told behavior input space (rest exit) y core z → ComesTo gives told behavior input space traversal_step x core z
 
 -- the same, whatever the clock answers and the input is
-abbrev pub BeginsStep : {S : Type 0} → (S → (q : Question) → Answer q → S → Type 0) → Behavior → Workspace → Option BucketWords → S → Workspace → Option BucketWords → S → Exit → Bool → Type 0
-BeginsStep gives behavior w lent_bucket c v mid d exit whole =
-    (told : Option ℕ) (input : List ℕ) (space : PassSpace) → w.first.space ≡ space → Begins gives told behavior input space w lent_bucket c v mid d exit whole
+abbrev pub BeginsStep : {S : Type 0} → (S → (q : Question) → Answer q → S → Type 0) → Behavior → Work S → Work S → Exit → Bool → Type 0
+BeginsStep gives behavior x y exit whole =
+    (told : Option ℕ) (input : List ℕ) (space : PassSpace) → x.workspace.first.space ≡ space → Begins gives told behavior input space x y exit whole

@@ -1,12 +1,18 @@
 -- What a traversal that nothing struck has for its caller.
 use Rattle.std.specs.Prelude.{◌≡◌, ℕ, ◌+◌, ◌*◌, ◌-◌, ◌^◌, ◌<◌, ◌≤◌, List, Option, Some}
 use Rattle.sei_fault.specs.Counts.{Counts}
+use Rattle.sei_fault.specs.declared.place.Phase.{Phase}
 use Rattle.sei_stmt.specs.Machine.{Machine}
 use Rattle.sei_traverse.specs.Comes.{Agrees}
 use Rattle.sei_traverse.specs.CallContext.{CallContext, Whole}
+use Rattle.sei_traverse.specs.OnWay.{OnWay}
 use Rattle.sei_traverse.specs.Phases.{reply_of}
 use Rattle.sei_traverse.specs.State.{TraversalState}
 use Rattle.sei_traverse.specs.Unstruck.{first_questions}
+
+-- this holds if the traversal is on its way in this phase, and no strike fell since it began
+abbrev pub IfUnstruckIn : Phase → CallContext → TraversalState → Option (List ℕ) → Counts → Counts → Type 0 → Type 0
+IfUnstruckIn phase e t lent begin now Holds = t.workspace.place.phase ≡ phase → OnWay e t lent begin now → now.struck ≡ begin.struck → Holds
 
 -- the reply and the copy for the wire are the output of an honest run, which is by the noted time where one was noted, and
 -- twice as many questions were asked as its own weigh, with the test behind Halt that closes its phase

@@ -23,9 +23,10 @@ use Rattle.sei_traverse.specs.declared.turned.Want.TheVariants.{Nothing}
 use Rattle.sei_traverse.specs.declared.workspace.Ending.{Ending}
 use Rattle.sei_traverse.specs.declared.workspace.Ending.TheVariants.{Leads, Refuses, Aborts}
 use Rattle.sei_traverse.specs.declared.workspace.Workspace.{Workspace}
-use Rattle.sei_traverse.specs.Acts.{Acted, at}
-use Rattle.sei_traverse.specs.PassActs.{first_tree, second_tree}
-use Rattle.sei_traverse.specs.Phases.{guard_tree, take_tree, restore_tree, compared, compare_tree, verify_tree, enter_tree, give_tree, send_tree, done_tree}
+use Rattle.sei_traverse.specs.Acts.{Acted, at, next_phase}
+use Rattle.sei_pass.specs.declared.given.Which.TheVariants.{Making, Reading}
+use Rattle.sei_traverse.specs.PassActs.{pass_tree}
+use Rattle.sei_traverse.specs.Phases.{guard_tree, take_tree, restore_tree, compared, compare_tree, verify_tree, closing_tree}
 use Rattle.sei_traverse.specs.Given.{Given}
 use Rattle.sei_stmt.specs.Handling.{Behavior}
 
@@ -34,15 +35,15 @@ use Rattle.sei_stmt.specs.Handling.{Behavior}
 abbrev pub act_in : Given → ℕ → Phase → ℕ → Workspace → List ℕ → Tree Acted
 act_in g now Guard index w words = guard_tree g w words
 act_in g now Take index w words = take_tree g index w words
-act_in g now First index w words = first_tree g now index w words
+act_in g now First index w words = pass_tree Making g now index w words
 act_in g now Restore index w words = restore_tree index w words
-act_in g now Second index w words = second_tree g now index w words
+act_in g now Second index w words = pass_tree Reading g now index w words
 act_in g now Compare index w words = compare_tree index w words
 act_in g now Verify index w words = verify_tree index w words
-act_in g now Enter index w words = enter_tree w words
-act_in g now Give index w words = give_tree w words
-act_in g now Send index w words = send_tree w words
-act_in g now Done index w words = done_tree w words
+act_in g now Enter index w words = closing_tree Enter w words
+act_in g now Give index w words = closing_tree Give w words
+act_in g now Send index w words = closing_tree Send w words
+act_in g now Done index w words = closing_tree Done w words
 
 abbrev pub act_tree : Given → ℕ → Workspace → List ℕ → Tree Acted
 act_tree g now w words = act_in g now w.place.phase w.place.index w words
@@ -70,19 +71,6 @@ site_of s w = site_in s w w.place.phase w.place.index
 
 -- where a step goes whose act was left out: to the next index, or behind a phase's last step to the next phase;
 -- in the passes the last step is a Halt
-
-abbrev pub next_phase : Phase → Phase
-next_phase Guard = Take
-next_phase Take = First
-next_phase First = Restore
-next_phase Restore = Second
-next_phase Second = Compare
-next_phase Compare = Verify
-next_phase Verify = Enter
-next_phase Enter = Give
-next_phase Give = Send
-next_phase Send = Done
-next_phase Done = Done
 
 abbrev pub is_halt : Act → Bool
 is_halt Halt = true
@@ -150,21 +138,28 @@ twice_from g later w words ending = unless_ended (λ to. once g later w words) w
 abbrev pub twice : Given → ℕ → Acted → Tree StepResult
 twice g later x = twice_from g later x.workspace x.words x.ending
 
+abbrev pub made_twice : Given → ℕ → ℕ → Workspace → List ℕ → Tree StepResult
+made_twice g now later w words = bound (act_tree g now w words) (twice g later)
+
 abbrev pub step_as : Given → ℕ → ℕ → Workspace → List ℕ → Act → Times → Tree StepResult
 step_as g now later w words act Once = once g now w words
 step_as g now later w words act Skip = goes w words (skipped w act)
-step_as g now later w words act Twice = bound (act_tree g now w words) (twice g later)
+step_as g now later w words act Twice = made_twice g now later w words
 
-abbrev pub step_at : Given → ℕ → ℕ → Workspace → List ℕ → Option Act → Tree StepResult
-step_at g now later w words None = Ended (step_result w words (aborted w.place.phase (Table w.place.index)))
-step_at g now later w words (Some act) = Ask (Often (record { place = w.place; act = act })) (step_as g now later w words act)
+-- how often it is made is asked
+abbrev pub step_of : Act → Given → ℕ → ℕ → Workspace → List ℕ → Tree StepResult
+step_of act g now later w words = Ask (Often (record { place = w.place; act = act })) (step_as g now later w words act)
+
+abbrev pub step_at : Option Act → Given → ℕ → ℕ → Workspace → List ℕ → Tree StepResult
+step_at None g now later w words = Ended (step_result w words (aborted w.place.phase (Table w.place.index)))
+step_at (Some act) g now later w words = step_of act g now later w words
 
 -- a step: how often its act is made, the act, and the next place. The clock answers `now` to the act, and `later` where
 -- that is made once more
 abbrev pub traversal_step : Given → ℕ → ℕ → Workspace → List ℕ → Tree StepResult
 traversal_step g now later w words =
     let v : Workspace = record w { want = Nothing } in
-    step_at g now later v words (site_of g.behavior v)
+    step_at (site_of g.behavior v) g now later v words
 
 -- for one answer of the clock the work goes like this; and for two, where the clock is asked again
 pub record Timed {S R : Type 0} (gives : S → (q : Question) → Answer q → S → Type 0) (told : Option ℕ) (tree : ℕ → Tree R) (s t : S) (x : R) : Type 0 where

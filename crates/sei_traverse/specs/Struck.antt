@@ -13,14 +13,14 @@ use Rattle.sei_stmt.specs.Honest.{after, HonestRun}
 use Rattle.sei_stmt.specs.Machine.{Machine, Setting, Outcome, with_log}
 use Rattle.sei_stmt.specs.Machine.Outcome.{Next, Halted}
 use Rattle.sei_stmt.specs.Passes.{notes_of}
-use Rattle.sei_pass.specs.declared.given.Which.TheVariants.{Reading}
+use Rattle.sei_pass.specs.declared.given.Which.TheVariants.{Making, Reading}
 use Rattle.sei_pass.specs.State.{new_pass}
 use Rattle.sei_pass.specs.Steps.{machine_of}
 use Rattle.sei_traverse.specs.declared.workspace.Workspace.{Workspace}
 use Rattle.sei_traverse.specs.Alike.{AlikeAt, AlikeLogs}
 use Rattle.sei_traverse.specs.Comes.{renoted, Comes}
 use Rattle.sei_traverse.specs.CallContext.{CallContext, first_setting, first_start, Follows, Whole}
-use Rattle.sei_traverse.specs.PassActs.{asked_behind, pass_of, first_machine, second_machine}
+use Rattle.sei_traverse.specs.PassActs.{pass_of, machine_in, asked_behind}
 use Rattle.sei_traverse.specs.Phases.{reply_of}
 use Rattle.sei_traverse.specs.Given.{given_of, setting_in}
 use Rattle.sei_traverse.specs.Trusted.{PassesGuard, second_setting}
@@ -73,7 +73,7 @@ pub record IsMisread (e : CallContext) (w : Workspace) (words : List ℕ) (asked
   pub fewer : length log.items ≤ length w.first_log.items
   pub made : ℕ
   pub number : ℕ
-  pub comes : Comes (first_setting e) (first_start e) made (record { machine = relogged log (first_machine w words); outcome = Next w.place.index }) number
+  pub comes : Comes (first_setting e) (first_start e) made (record { machine = relogged log (machine_in Making w words); outcome = Next w.place.index }) number
   pub told : Follows e.clock comes.time
   pub applies : applied w.first_log.items e.taken ≡ words
   pub off : SameOff w.first_log.items words e.taken
@@ -146,7 +146,7 @@ setting_on e bucket = setting_in (given_of e.behavior e.input e.space (Some buck
 
 -- an honest second pass on these words, by the workspace's notes, has come to where the workspace stands
 abbrev pub ComesOn : CallContext → Workspace → List ℕ → List ℕ → Outcome → ℕ → Type 0
-ComesOn e w found words o n = after (setting_on e w.wanted) (start_on e found w.notes) n ≡ record { machine = second_machine w words; outcome = o }
+ComesOn e w found words o n = after (setting_on e w.wanted) (start_on e found w.notes) n ≡ record { machine = machine_in Reading w words; outcome = o }
 
 -- it is honest on the words that were taken, by notes whose time has 64 bits, and has asked no less than a first pass would;
 -- or it is honest on words that a misread log or a change which was not undone left; or it was struck itself, and the first

@@ -16,7 +16,8 @@ use Rattle.sei_traverse.specs.declared.turned.Want.TheVariants.{Nothing, Take as
 use Rattle.sei_traverse.specs.declared.workspace.Workspace.{Workspace}
 use Rattle.sei_traverse.specs.Phases.{send_want}
 use Rattle.sei_traverse.specs.Acts.{at}
-use Rattle.sei_traverse.specs.PassActs.{pass_of, first_machine, second_machine}
+use Rattle.sei_pass.specs.declared.given.Which.TheVariants.{Making, Reading}
+use Rattle.sei_traverse.specs.PassActs.{pass_of, machine_in}
 use Rattle.sei_traverse.specs.Comes.{at_time, again, renoted, Comes}
 use Rattle.sei_traverse.specs.CallContext.{CallContext, first_setting, first_start, no_notes, Follows, Whole}
 
@@ -97,7 +98,7 @@ pub record FirstWaits (e : CallContext) (w : Workspace) (steps asked : ℕ) : Ty
 pub record FirstRuns (e : CallContext) (w : Workspace) (words : List ℕ) (steps asked : ℕ) : Type 0 where
   pub space : w.first.space ≡ e.space
   pub made : ℕ
-  pub comes : Comes (first_setting e) (first_start e) made (record { machine = first_machine w words; outcome = Next w.place.index }) asked
+  pub comes : Comes (first_setting e) (first_start e) made (record { machine = machine_in Making w words; outcome = Next w.place.index }) asked
   pub told : Follows e.clock comes.time
   pub number : steps ≤ 3 + made
 
@@ -142,7 +143,7 @@ pub record InSecond (e : CallContext) (w : Workspace) (lent : Option (List ℕ))
   pub lent_are : lent ≡ Some words
   pub n : ℕ
   pub within : n ≤ made
-  pub comes : after (again (first_setting e)) (renoted end.notes (first_start e)) n ≡ record { machine = second_machine w words; outcome = Next w.place.index }
+  pub comes : after (again (first_setting e)) (renoted end.notes (first_start e)) n ≡ record { machine = machine_in Reading w words; outcome = Next w.place.index }
   pub number : steps ≤ before_second made (length end.log.items) + n
   pub questions : first_questions e time made + weighed_after (again (first_setting e)) (renoted end.notes (first_start e)) n ≤ asked
 

@@ -1,5 +1,9 @@
 -- What every traversal keeps, whatever the answers of the core are.
-use Rattle.std.specs.Prelude.{◌≡◌, ◌≤◌, length}
+use Rattle.std.specs.Prelude.{◌≡◌, ℕ, ◌≤◌, length, Option}
+use Rattle.sei_stmt.specs.Handling.{Parsed, parsed_words}
+use Rattle.sei_pass.specs.declared.given.Sealed.{Sealed}
+use Rattle.sei_pass.specs.declared.spaces.PassSpace.{PassSpace}
+use Rattle.sei_pass.specs.Setting.{sealed_call}
 use Rattle.sei_pass.specs.State.{IsPass}
 use Rattle.sei_traverse.specs.declared.workspace.Workspace.{Workspace}
 
@@ -14,6 +18,10 @@ pub record IsWorkspace (w : Workspace) : Type 0 where
   pub second_room : w.second_log.room ≡ w.first.space.log
   pub wire_room : w.wire.room ≡ w.first.space.bytes
   pub wire_fits : length w.wire.items ≤ w.wire.room
+
+-- the input words of the sealed call fit into this space
+abbrev pub FitsIn : PassSpace → (ℕ → Option Parsed) → Sealed → Type 0
+FitsIn space parsed sealed = length (parsed_words (sealed_call parsed sealed.nth)) ≤ space.input
 
 -- what each act and step leaves as it is
 pub record Stays (w v : Workspace) : Type 0 where

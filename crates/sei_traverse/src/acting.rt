@@ -1,17 +1,14 @@
 //! The act at a place, whichever its phase is.
-ghost use Rattle.std.specs.Prelude.{◌≡◌, ◌+◌, ◌<◌, ◌≤◌, ◌^◌, length};
-ghost use Rattle.sei_stmt.specs.Handling.{parsed_words};
-ghost use Rattle.sei_words.specs.LentBucket.{words_of, bucket_of, place_of, IsOf};
-ghost use Rattle.sei_pass.specs.Setting.{sealed_call};
-ghost use Rattle.sei_traverse.specs.Acts.{acted};
-ghost use Rattle.sei_traverse.specs.Given.{given_of};
-ghost use Rattle.sei_traverse.specs.Step.{act_tree, Timed};
-ghost use Rattle.sei_traverse.specs.Workspaces.{IsWorkspace, Stays};
+ghost use Rattle.std.specs.Prelude.{◌≡◌, ◌+◌, ◌<◌, ◌^◌};
+ghost use Rattle.sei_words.specs.LentBucket.{place_of, IsOf};
+ghost use Rattle.sei_traverse.specs.Step.{act_tree};
+ghost use Rattle.sei_traverse.specs.Work.{work, ActsAs};
+ghost use Rattle.sei_traverse.specs.Workspaces.{IsWorkspace, FitsIn, Stays};
 
 use crate::workspace::{Ending, Workspace};
 use sei_fault::{Core, Phase};
 use sei_outside::Clock;
-use sei_pass::{PassSpace, Slots};
+use sei_pass::{PassSpace, Slots, Which};
 use sei_stmt::Handler;
 
 impl Workspace {
@@ -29,13 +26,11 @@ impl Workspace {
     ) -> Ending
         requires workspace { IsWorkspace self.old }
         requires space { self.old.first.space ≡ space.now }
-        requires room { length (parsed_words (sealed_call ((H.behavior hands.now).parsed input.now) self.old.sealed.nth)) ≤ space.now.input }
+        requires room { FitsIn space.now ((H.behavior hands.now).parsed input.now) self.old.sealed }
         requires index { self.old.place.index + 1 < 2 ^ 64 }
         requires lent { IsOf space.now.geometry (L.lent_bucket lent.old) }
-        ensures act { Timed K.gives (C.told clock.now)
-            (λ now. act_tree (given_of (H.behavior hands.now) input.now space.now (bucket_of (L.lent_bucket lent.old)))
-            now self.old (words_of (L.lent_bucket lent.old)))
-            core.old core.new (acted self.new (words_of (L.lent_bucket lent.new)) result) }
+        ensures act { ActsAs K.gives (C.told clock.now) (H.behavior hands.now) input.now space.now act_tree
+            (work self.old (L.lent_bucket lent.old) core.old) (work self.new (L.lent_bucket lent.new) core.new) result }
         ensures lent { place_of (L.lent_bucket lent.new) ≡ place_of (L.lent_bucket lent.old) }
         ensures stays { Stays self.old self.new }
         ensures place { self.new.place ≡ self.old.place }
@@ -43,15 +38,15 @@ impl Workspace {
         match self.place.phase {
             Phase::Guard => self.guard(hands, input, core),
             Phase::Take => self.take(hands, input, space, core),
-            Phase::First => self.first(hands, input, lent, core, clock),
+            Phase::First => self.pass(Which::Making, hands, input, space, lent, core, clock),
             Phase::Restore => self.restore(lent, core),
-            Phase::Second => self.second(hands, input, lent, core, clock),
+            Phase::Second => self.pass(Which::Reading, hands, input, space, lent, core, clock),
             Phase::Compare => self.compare(core),
             Phase::Verify => self.verify(lent, core),
-            Phase::Enter => self.enter(core),
-            Phase::Give => self.give(core),
-            Phase::Send => self.send(core),
-            Phase::Done => self.finish(core),
+            Phase::Enter => self.close_only(Phase::Enter, core),
+            Phase::Give => self.close_only(Phase::Give, core),
+            Phase::Send => self.close_only(Phase::Send, core),
+            Phase::Done => self.close_only(Phase::Done, core),
         }
     }
 }

@@ -1,10 +1,10 @@
-//! The acts behind the last comparison: each closes its phase.
-ghost use Rattle.std.specs.Prelude.{◌≡◌, ℕ, List};
-ghost use Rattle.sei_fault.specs.Tree.{Runs};
+//! The acts after the last comparison: each only closes its phase.
+ghost use Rattle.std.specs.Prelude.{◌≡◌};
+ghost use Rattle.sei_traverse.specs.Phases.{send_want, closing_want, closing_place, closing_tree};
+ghost use Rattle.sei_traverse.specs.Work.{ActsAlone};
 ghost use Rattle.sei_traverse.specs.Workspaces.{Stays};
-ghost use Rattle.sei_traverse.specs.Acts.{acted};
-ghost use Rattle.sei_traverse.specs.Phases.{enter_tree, give_tree, send_want, send_tree, done_tree};
 
+use crate::stepping::next_phase;
 use crate::turned::Want;
 use crate::workspace::{Ending, Workspace};
 use sei_fault::{Core, Phase, Place};
@@ -20,73 +20,47 @@ fn send_want(reply: &[u8]) -> Want
     }
 }
 
+/// Where a closed phase leads: to the next one, and the last one to the end.
+fn closing_place(phase: Phase) -> Place
+    ensures { result ≡ closing_place phase }
+{
+    match phase {
+        Phase::Done => Place { phase, index: 1 },
+        Phase::Guard | Phase::Take | Phase::First | Phase::Restore | Phase::Second => Place {
+            phase: next_phase(phase),
+            index: 0,
+        },
+        Phase::Compare | Phase::Verify | Phase::Enter | Phase::Give | Phase::Send => Place {
+            phase: next_phase(phase),
+            index: 0,
+        },
+    }
+}
+
 impl Workspace {
-    /// Enter.
-    pub fn enter<K: Core>(&mut self, core: &mut K) -> Ending
-        ensures act { (words : List ℕ) → Runs K.gives (enter_tree self.old words) core.old core.new (acted self.new words result) }
-        ensures stays { Stays self.old self.new }
-        ensures place { self.new.place ≡ self.old.place }
+    /// What is wanted where a phase is closed.
+    fn closing_want(&self, phase: Phase) -> Want
+        ensures { result ≡ closing_want self.now phase }
     {
-        self.close(
-            Phase::Enter,
-            Want::Enter,
-            Place {
-                phase: Phase::Give,
-                index: 0,
+        match phase {
+            Phase::Take => Want::Take {
+                bucket: self.wanted,
             },
-            core,
-        )
+            Phase::Enter => Want::Enter,
+            Phase::Give => Want::Give,
+            Phase::Send => send_want(self.second.bytes()),
+            Phase::Guard | Phase::First | Phase::Restore | Phase::Second => Want::Nothing,
+            Phase::Compare | Phase::Verify | Phase::Done => Want::Nothing,
+        }
     }
 
-    /// Give.
-    pub fn give<K: Core>(&mut self, core: &mut K) -> Ending
-        ensures act { (words : List ℕ) → Runs K.gives (give_tree self.old words) core.old core.new (acted self.new words result) }
+    /// Closes a phase with its want, and leads on.
+    pub fn close_only<K: Core>(&mut self, phase: Phase, core: &mut K) -> Ending
+        ensures act { ActsAlone K.gives (closing_tree phase) self.old core.old self.new core.new result }
         ensures stays { Stays self.old self.new }
         ensures place { self.new.place ≡ self.old.place }
     {
-        self.close(
-            Phase::Give,
-            Want::Give,
-            Place {
-                phase: Phase::Send,
-                index: 0,
-            },
-            core,
-        )
-    }
-
-    /// Send.
-    pub fn send<K: Core>(&mut self, core: &mut K) -> Ending
-        ensures act { (words : List ℕ) → Runs K.gives (send_tree self.old words) core.old core.new (acted self.new words result) }
-        ensures stays { Stays self.old self.new }
-        ensures place { self.new.place ≡ self.old.place }
-    {
-        let want = send_want(self.second.bytes());
-        self.close(
-            Phase::Send,
-            want,
-            Place {
-                phase: Phase::Done,
-                index: 0,
-            },
-            core,
-        )
-    }
-
-    /// Done.
-    pub fn finish<K: Core>(&mut self, core: &mut K) -> Ending
-        ensures act { (words : List ℕ) → Runs K.gives (done_tree self.old words) core.old core.new (acted self.new words result) }
-        ensures stays { Stays self.old self.new }
-        ensures place { self.new.place ≡ self.old.place }
-    {
-        self.close(
-            Phase::Done,
-            Want::Nothing,
-            Place {
-                phase: Phase::Done,
-                index: 1,
-            },
-            core,
-        )
+        let want = self.closing_want(phase);
+        self.close(phase, want, closing_place(phase), core)
     }
 }

@@ -1,10 +1,8 @@
 //! The acts that compare the two passes.
-ghost use Rattle.std.specs.Prelude.{◌≡◌, ℕ, ◌+◌, ◌^◌, ◌<◌, List};
-ghost use Rattle.sei_compare.specs.Comparing.{entry_tree, codes_tree};
-ghost use Rattle.sei_fault.specs.Tree.{Runs, bound};
+ghost use Rattle.std.specs.Prelude.{◌≡◌, ◌+◌, ◌^◌, ◌<◌};
+ghost use Rattle.sei_traverse.specs.Phases.{compared, compare_tree, entries_tree, outputs_tree};
+ghost use Rattle.sei_traverse.specs.Work.{ActsAlone};
 ghost use Rattle.sei_traverse.specs.Workspaces.{Stays};
-ghost use Rattle.sei_traverse.specs.Acts.{acted};
-ghost use Rattle.sei_traverse.specs.Phases.{compared, compare_tree, entries_to, outputs_to};
 
 use crate::turned::Want;
 use crate::workspace::{Ending, Workspace};
@@ -21,7 +19,7 @@ impl Workspace {
 
     /// Compare.
     pub fn compare<K: Core>(&mut self, core: &mut K) -> Ending
-        ensures act { (words : List ℕ) → Runs K.gives (compare_tree self.old.place.index self.old words) core.old core.new (acted self.new words result) }
+        ensures act { ActsAlone K.gives (compare_tree self.old.place.index) self.old core.old self.new core.new result }
         ensures stays { Stays self.old self.new }
         ensures place { self.new.place ≡ self.old.place }
     {
@@ -35,8 +33,7 @@ impl Workspace {
     /// Compares an entry of both logs.
     fn compare_entry<K: Core>(&mut self, core: &mut K) -> Ending
         requires { self.old.place.index + 1 < 2 ^ 64 }
-        ensures act { (words : List ℕ) → Runs K.gives (bound (entry_tree self.old.first_log.items self.old.second_log.items self.old.place.index) (entries_to self.old words self.old.place.index))
-            core.old core.new (acted self.new words result) }
+        ensures act { ActsAlone K.gives (entries_tree self.old.place.index) self.old core.old self.new core.new result }
         ensures stays { Stays self.old self.new }
         ensures place { self.new.place ≡ self.old.place }
     {
@@ -53,8 +50,7 @@ impl Workspace {
 
     /// Compares the outputs.
     fn compare_outputs<K: Core>(&mut self, core: &mut K) -> Ending
-        ensures act { (words : List ℕ) → Runs K.gives (bound (codes_tree self.old.first.code self.old.first.bytes.items self.old.second.code self.old.second.bytes.items) (outputs_to self.old words))
-            core.old core.new (acted self.new words result) }
+        ensures act { ActsAlone K.gives outputs_tree self.old core.old self.new core.new result }
         ensures stays { Stays self.old self.new }
         ensures place { self.new.place ≡ self.old.place }
     {

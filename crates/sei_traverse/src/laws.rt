@@ -1,28 +1,27 @@
 //! Laws of the definitions, each the clause of a function that does nothing.
-ghost use Rattle.std.specs.Prelude.{◌≡◌, ℕ, suc, ◌+◌, ◌-◌, ◌*◌, ◌^◌, ◌≤◌, List, [], ◌∷◌, ◌++◌, replicate, min, Option, Some, None};
+ghost use Rattle.std.specs.Prelude.{◌≡◌, ℕ, suc, ◌+◌, ◌-◌, ◌^◌, ◌≤◌, List, [], min, Option, Some, None};
 ghost use Rattle.sei_fault.specs.Counts.{Counts};
 ghost use Rattle.sei_fault.specs.declared.place.Phase.{Phase};
 ghost use Rattle.sei_pass.specs.declared.spaces.PassSpace.{PassSpace};
 ghost use Rattle.sei_pass.specs.declared.given.Sealed.{Sealed};
-ghost use Rattle.sei_words.specs.LentBucket.{place_of};
-ghost use Rattle.sei_traverse.specs.Bounds.{most_steps, StepsWithin, StepsAfter};
-ghost use Rattle.sei_traverse.specs.CallContext.{CallContext, IsCallContext};
-ghost use Rattle.sei_traverse.specs.FaultInvariant.{FaultInvariant, LendsWanted, Isolates};
-ghost use Rattle.sei_traverse.specs.Noting.{NotesTime};
-ghost use Rattle.sei_traverse.specs.OnWay.{lent_words, Lends, TellsAs, OnWay, StaysOnWay, AtEnd};
-ghost use Rattle.sei_traverse.specs.Phases.{reply_of};
-ghost use Rattle.sei_traverse.specs.Running.{On, StepsTo, Makes, RunsOn};
 ghost use Rattle.sei_stmt.specs.Handling.{Behavior};
-ghost use Rattle.sei_traverse.specs.Served.{IsServed, HasReply};
-ghost use Rattle.sei_traverse.specs.Sound.{IsServedBy, IsModelAnswer};
+ghost use Rattle.sei_words.specs.LentBucket.{place_of};
+ghost use Rattle.sei_traverse.specs.Bounds.{honest_steps, most_steps, StepsWithin};
+ghost use Rattle.sei_traverse.specs.CallContext.{CallContext, IsCallContext};
+ghost use Rattle.sei_traverse.specs.FaultInvariant.{FaultInvariant};
+ghost use Rattle.sei_traverse.specs.OnWay.{OnWay, AtEnd};
+ghost use Rattle.sei_traverse.specs.Phases.{reply_of};
+ghost use Rattle.sei_traverse.specs.Promises.{KeepsBound, KeepsRoom, KeepsTime, KeepsOnWay, LastOnWay, KeepsIsolated, LastIsolated, KeepsSteps};
+ghost use Rattle.sei_traverse.specs.Promises.{OfEachStep, OfEachRun, EachRunKeeps};
+ghost use Rattle.sei_traverse.specs.Running.{On, Makes};
+ghost use Rattle.sei_traverse.specs.Served.{IfUnstruckIn, IsServed, HasReply};
+ghost use Rattle.sei_traverse.specs.Sound.{IsServedBy, GivesModelAnswer};
 ghost use Rattle.sei_traverse.specs.State.{TraversalState, IsTraversal, begun_traversal};
-ghost use Rattle.sei_traverse.specs.Struck.{IsHonestResult};
 ghost use Rattle.sei_traverse.specs.Trusted.{IsTrusted, PassesGuard};
 ghost use Rattle.sei_traverse.specs.Wanting.{Steps, WantsOnce, wanted_in, all_wants};
 ghost use Rattle.sei_traverse.specs.declared.turned.State.{State};
 ghost use Rattle.sei_traverse.specs.declared.turned.Turned.{Turned};
 ghost use Rattle.sei_traverse.specs.declared.turned.Want.{Want};
-ghost use Rattle.sei_traverse.specs.declared.workspace.Workspace.{Workspace};
 
 use sei_fault::Core;
 use sei_stmt::Modeled;
@@ -40,9 +39,9 @@ pub fn traversals_are_on_their_way()
 /// Without a strike a traversal comes to its end: it makes no more steps than this.
 pub fn traversals_end()
     ensures running { (e : CallContext) (t : TraversalState) (lent : Option (List ℕ)) (begin now : Counts) → IsCallContext e → OnWay e t lent begin now → now.struck ≡ begin.struck →
-        t.steps ≤ 2 * e.space.budget + 3 * e.space.log + 11 }
+        t.steps ≤ honest_steps e.space }
     ensures ended { (e : CallContext) (t : TraversalState) (begin now : Counts) → AtEnd e t begin now → now.struck ≡ begin.struck →
-        t.steps ≤ 2 * e.space.budget + 3 * e.space.log + 11 }
+        t.steps ≤ honest_steps e.space }
 {}
 
 /// What is known of a traversal that one strike at most has struck is known where it begins, for every
@@ -65,14 +64,9 @@ pub fn faults_are_isolated()
 /// it aborts only if a strike fell, and is refused only before `Take` is closed. With one strike at most
 /// the number of steps stays bounded; and without one the traversal stays on its way.
 pub fn one_strike_is_isolated<K: Core>()
-    ensures isolated { (told : Option ℕ) (behavior : Behavior) (input : List ℕ) (x y : On K) (state : State) → StepsTo K.gives told behavior input x y state → (e : CallContext) (begin : Counts) →
-        IsTrusted e → TellsAs e.clock told → e.behavior ≡ behavior → e.input ≡ input → LendsWanted x.traversal.workspace x.lent → FaultInvariant e x.traversal (lent_words x.lent) begin (K.counts x.core) →
-        (K.counts y.core).struck ≤ begin.struck + 1 → Isolates e x.traversal y.traversal x.lent y.lent begin (K.counts y.core) y.traversal.workspace.want state }
-    ensures within { (told : Option ℕ) (behavior : Behavior) (input : List ℕ) (x y : On K) (state : State) → StepsTo K.gives told behavior input x y state → (begin : Counts) →
-        IsTraversal x.traversal → StepsWithin x.traversal begin (K.counts x.core) → StepsAfter y.traversal begin (K.counts y.core) state }
-    ensures on_way { (told : Option ℕ) (behavior : Behavior) (input : List ℕ) (x y : On K) (state : State) → StepsTo K.gives told behavior input x y state → (e : CallContext) (begin : Counts) →
-        IsCallContext e → TellsAs e.clock told → e.behavior ≡ behavior → e.input ≡ input → Lends e x.traversal.workspace.place.phase x.lent → OnWay e x.traversal (lent_words x.lent) begin (K.counts x.core) →
-        StaysOnWay e x.traversal y.traversal (lent_words y.lent) begin (K.counts y.core) y.traversal.workspace.want state }
+    ensures isolated { OfEachStep K.gives (KeepsIsolated K.counts) }
+    ensures within { OfEachStep K.gives (λ told behavior input x y t. IsTraversal x.traversal → KeepsBound K.counts x y t) }
+    ensures on_way { OfEachStep K.gives (KeepsOnWay K.counts) }
 {}
 
 /// Over all steps of a traversal that are isolated, `Take`, `Enter`, `Give` and `Send` are wanted in this
@@ -90,25 +84,23 @@ pub fn wants_come_once()
 /// lent. Its steps are counted; it notes no other time than the clock's; and no question is taken back
 /// over it, nor a strike, nor fall more strikes than there is room for.
 pub fn runs_keep_what_steps_keep<K: Core>()
-    ensures sealed { (told : Option ℕ) (behavior : Behavior) (input : List ℕ) (n : ℕ) (x z : On K) (t : Turned) → RunsOn K.gives K.counts told behavior input n x z t → z.traversal.workspace.sealed ≡ x.traversal.workspace.sealed }
-    ensures space { (told : Option ℕ) (behavior : Behavior) (input : List ℕ) (n : ℕ) (x z : On K) (t : Turned) → RunsOn K.gives K.counts told behavior input n x z t → z.traversal.space ≡ x.traversal.space }
-    ensures lent { (told : Option ℕ) (behavior : Behavior) (input : List ℕ) (n : ℕ) (x z : On K) (t : Turned) → RunsOn K.gives K.counts told behavior input n x z t → place_of z.lent ≡ place_of x.lent }
-    ensures steps { (told : Option ℕ) (behavior : Behavior) (input : List ℕ) (n : ℕ) (x z : On K) (t : Turned) → RunsOn K.gives K.counts told behavior input n x z t →
-        x.traversal.steps ≤ 2 ^ 64 - 1 → z.traversal.steps ≡ min (x.traversal.steps + suc n) (2 ^ 64 - 1) }
-    ensures noted { (told : Option ℕ) (behavior : Behavior) (input : List ℕ) (n : ℕ) (x z : On K) (t : Turned) → RunsOn K.gives K.counts told behavior input n x z t → NotesTime told x.traversal.workspace.notes.now z.traversal.workspace.notes.now }
-    ensures asked { (told : Option ℕ) (behavior : Behavior) (input : List ℕ) (n : ℕ) (x z : On K) (t : Turned) → RunsOn K.gives K.counts told behavior input n x z t → min (K.counts x.core).asked (2 ^ 128 - 1) ≤ (K.counts z.core).asked }
-    ensures struck { (told : Option ℕ) (behavior : Behavior) (input : List ℕ) (n : ℕ) (x z : On K) (t : Turned) → RunsOn K.gives K.counts told behavior input n x z t → (K.counts x.core).struck ≤ (K.counts z.core).struck }
-    ensures room { (told : Option ℕ) (behavior : Behavior) (input : List ℕ) (n : ℕ) (x z : On K) (t : Turned) → RunsOn K.gives K.counts told behavior input n x z t →
-        (r : ℕ) → (K.counts x.core).room ≡ Some r → (s : ℕ) × ((K.counts z.core).room ≡ Some s) × ((K.counts z.core).struck + s ≡ (K.counts x.core).struck + r) }
+    ensures sealed { EachRunKeeps K.gives K.counts (λ x z. z.traversal.workspace.sealed ≡ x.traversal.workspace.sealed) }
+    ensures space { EachRunKeeps K.gives K.counts (λ x z. z.traversal.space ≡ x.traversal.space) }
+    ensures lent { EachRunKeeps K.gives K.counts (λ x z. place_of z.lent ≡ place_of x.lent) }
+    ensures steps { OfEachRun K.gives K.counts (λ told behavior input n x last z t.
+        x.traversal.steps ≤ 2 ^ 64 - 1 → z.traversal.steps ≡ min (x.traversal.steps + suc n) (2 ^ 64 - 1)) }
+    ensures noted { OfEachRun K.gives K.counts (λ told behavior input n x last z t. KeepsTime told x z) }
+    ensures asked { EachRunKeeps K.gives K.counts (λ x z. min (K.counts x.core).asked (2 ^ 128 - 1) ≤ (K.counts z.core).asked) }
+    ensures struck { EachRunKeeps K.gives K.counts (λ x z. (K.counts x.core).struck ≤ (K.counts z.core).struck) }
+    ensures room { EachRunKeeps K.gives K.counts (KeepsRoom K.counts) }
 {}
 
 /// What a step notes of the time is the clock's answer, and so is what a run of many steps notes,
-/// unless a strike fell in it.
+/// whatever strikes fall.
 pub fn clocks_are_noted<K: Core>()
-    ensures step { (told : Option ℕ) (behavior : Behavior) (input : List ℕ) (x y : On K) (t : Turned) → Makes K.gives K.counts told behavior input x y t → (K.counts y.core).struck ≡ (K.counts x.core).struck →
-        NotesTime told x.traversal.workspace.notes.now y.traversal.workspace.notes.now }
-    ensures run { (told : Option ℕ) (behavior : Behavior) (input : List ℕ) (n : ℕ) (x z : On K) (t : Turned) → RunsOn K.gives K.counts told behavior input n x z t → (K.counts z.core).struck ≡ (K.counts x.core).struck →
-        NotesTime told x.traversal.workspace.notes.now z.traversal.workspace.notes.now }
+    ensures step { (told : Option ℕ) (behavior : Behavior) (input : List ℕ) (x y : On K) (t : Turned) →
+        Makes K.gives K.counts told behavior input x y t → KeepsTime told x y }
+    ensures run { OfEachRun K.gives K.counts (λ told behavior input n x last z t. KeepsTime told x z) }
 {}
 
 /// A run of many steps goes as its steps do. With one strike at most its steps are bounded. From a
@@ -116,18 +108,10 @@ pub fn clocks_are_noted<K: Core>()
 /// struck, its last step is isolated. All its steps are steps of the traversal, of which only the last
 /// may want anything.
 pub fn runs_go_as_steps_go<K: Core>()
-    ensures within { (told : Option ℕ) (behavior : Behavior) (input : List ℕ) (n : ℕ) (x z : On K) (t : Turned) → RunsOn K.gives K.counts told behavior input n x z t →
-        (begin : Counts) → IsTraversal x.traversal → StepsWithin x.traversal begin (K.counts x.core) → StepsAfter z.traversal begin (K.counts z.core) t.state }
-    ensures on_way { (told : Option ℕ) (behavior : Behavior) (input : List ℕ) (n : ℕ) (x z : On K) (t : Turned) (r : RunsOn K.gives K.counts told behavior input n x z t) (e : CallContext) (begin : Counts) →
-        IsCallContext e → TellsAs e.clock told → e.behavior ≡ behavior → e.input ≡ input → Lends e x.traversal.workspace.place.phase x.lent → OnWay e x.traversal (lent_words x.lent) begin (K.counts x.core) →
-        StaysOnWay e r.last.traversal z.traversal (lent_words z.lent) begin (K.counts z.core) t.want t.state }
-    ensures isolated { (told : Option ℕ) (behavior : Behavior) (input : List ℕ) (n : ℕ) (x z : On K) (t : Turned) (r : RunsOn K.gives K.counts told behavior input n x z t) (e : CallContext) (begin : Counts) →
-        IsTrusted e → TellsAs e.clock told → e.behavior ≡ behavior → e.input ≡ input → LendsWanted x.traversal.workspace x.lent → FaultInvariant e x.traversal (lent_words x.lent) begin (K.counts x.core) →
-        (K.counts z.core).struck ≤ begin.struck + 1 → Isolates e r.last.traversal z.traversal r.last.lent z.lent begin (K.counts z.core) t.want t.state }
-    ensures wanted { (told : Option ℕ) (behavior : Behavior) (input : List ℕ) (n : ℕ) (x z : On K) (t : Turned) (r : RunsOn K.gives K.counts told behavior input n x z t) (e : CallContext) (begin : Counts) →
-        IsTrusted e → TellsAs e.clock told → e.behavior ≡ behavior → e.input ≡ input → LendsWanted x.traversal.workspace x.lent → FaultInvariant e x.traversal (lent_words x.lent) begin (K.counts x.core) →
-        (K.counts z.core).struck ≤ begin.struck + 1 → (wants : List Want) → Steps e begin wants x.traversal State.Went →
-        Steps e begin ((wants ++ replicate n Want.Nothing) ++ t.want ∷ []) z.traversal t.state }
+    ensures within { OfEachRun K.gives K.counts (λ told behavior input n x last z t. IsTraversal x.traversal → KeepsBound K.counts x z t) }
+    ensures on_way { OfEachRun K.gives K.counts (λ told behavior input n x last z t. LastOnWay K.counts told behavior input x last z t) }
+    ensures isolated { OfEachRun K.gives K.counts (λ told behavior input n x last z t. LastIsolated K.counts told behavior input x last z t) }
+    ensures wanted { OfEachRun K.gives K.counts (λ told behavior input n x last z t. KeepsSteps K.counts told behavior input n x z t) }
 {}
 
 /// With one strike at most since it began, a traversal makes no more steps than its bound, whatever
@@ -143,14 +127,14 @@ pub fn steps_are_bounded()
 /// wire are its output, and at least twice as many questions were asked as it asks with the test behind
 /// `Halt` that closes its phase.
 pub fn both_passes_are_made()
-    ensures entered { (e : CallContext) (t : TraversalState) (lent : Option (List ℕ)) (begin now : Counts) → t.workspace.place.phase ≡ Phase.Give →
-        OnWay e t lent begin now → now.struck ≡ begin.struck → IsServed e t lent begin now }
-    ensures still { (e : CallContext) (t : TraversalState) (words : List ℕ) (begin now : Counts) → t.workspace.place.phase ≡ Phase.Send →
-        OnWay e t (Some words) begin now → now.struck ≡ begin.struck → IsServed e t (Some words) begin now }
-    ensures given { (e : CallContext) (t : TraversalState) (lent : Option (List ℕ)) (begin now : Counts) → t.workspace.place.phase ≡ Phase.Send →
-        OnWay e t lent begin now → now.struck ≡ begin.struck → HasReply e t begin now }
-    ensures sent { (e : CallContext) (t : TraversalState) (lent : Option (List ℕ)) (begin now : Counts) → t.workspace.place.phase ≡ Phase.Done →
-        OnWay e t lent begin now → now.struck ≡ begin.struck → HasReply e t begin now }
+    ensures entered { (e : CallContext) (t : TraversalState) (lent : Option (List ℕ)) (begin now : Counts) →
+        IfUnstruckIn Phase.Give e t lent begin now (IsServed e t lent begin now) }
+    ensures still { (e : CallContext) (t : TraversalState) (words : List ℕ) (begin now : Counts) →
+        IfUnstruckIn Phase.Send e t (Some words) begin now (IsServed e t (Some words) begin now) }
+    ensures given { (e : CallContext) (t : TraversalState) (lent : Option (List ℕ)) (begin now : Counts) →
+        IfUnstruckIn Phase.Send e t lent begin now (HasReply e t begin now) }
+    ensures sent { (e : CallContext) (t : TraversalState) (lent : Option (List ℕ)) (begin now : Counts) →
+        IfUnstruckIn Phase.Done e t lent begin now (HasReply e t begin now) }
     ensures finished { (e : CallContext) (t : TraversalState) (begin now : Counts) → AtEnd e t begin now → now.struck ≡ begin.struck → HasReply e t begin now }
 {}
 
@@ -160,6 +144,6 @@ pub fn both_passes_are_made()
 pub fn sound_handlers_are_trusted<H: Modeled>()
     ensures trusted { (h : H) (e : CallContext) → IsServedBy (H.space h) (H.begins h) (H.stands h) (H.answer h) e → IsTrusted e }
     ensures call_context { (h : H) (e : CallContext) → IsServedBy (H.space h) (H.begins h) (H.stands h) (H.answer h) e → PassesGuard e → IsCallContext e }
-    ensures answered { (h : H) (e : CallContext) (s : IsServedBy (H.space h) (H.begins h) (H.stands h) (H.answer h) e) (w : Workspace) (words : List ℕ) (asked : ℕ) →
-        IsHonestResult e w words asked → IsModelAnswer (H.stands h) (H.answer h) s.held e w words }
+    ensures answered { (h : H) (e : CallContext) (s : IsServedBy (H.space h) (H.begins h) (H.stands h) (H.answer h) e) →
+        GivesModelAnswer (H.stands h) (H.answer h) s.held e }
 {}

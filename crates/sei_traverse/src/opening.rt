@@ -1,14 +1,13 @@
 //! The acts before the first pass.
-ghost use Rattle.std.specs.Prelude.{◌≡◌, ℕ, List, Option};
+ghost use Rattle.std.specs.Prelude.{◌≡◌, ℕ, Option};
 ghost use Rattle.sei_pass.specs.declared.spaces.PassSpace.{PassSpace};
 ghost use Rattle.sei_code.specs.Coded.{read_of};
-ghost use Rattle.sei_fault.specs.Tree.{Runs};
 ghost use Rattle.sei_stmt.specs.Handling.{parsed_bucket};
 ghost use Rattle.sei_pass.specs.Setting.{sealed_call};
-ghost use Rattle.sei_traverse.specs.Workspaces.{Stays};
-ghost use Rattle.sei_traverse.specs.Acts.{acted, closing_then};
-ghost use Rattle.sei_traverse.specs.Phases.{guard_call, guard_tree, store_wanted, take_tree, take_wanted};
 ghost use Rattle.sei_traverse.specs.Given.{given_of, has_call, bucket_or_zero};
+ghost use Rattle.sei_traverse.specs.Phases.{guard_call, guard_tree, store_wanted, take_closing, take_tree};
+ghost use Rattle.sei_traverse.specs.Work.{ActsAlone};
+ghost use Rattle.sei_traverse.specs.Workspaces.{Stays};
 
 use crate::turned::Want;
 use crate::workspace::{Ending, Workspace};
@@ -47,9 +46,8 @@ fn bucket_of_call<H: Handler>(hands: &H, input: &[u8], nth: Coded) -> u64
 impl Workspace {
     /// Guard.
     pub fn guard<H: Handler, K: Core>(&mut self, hands: &H, input: &[u8], core: &mut K) -> Ending
-        ensures act { (space : PassSpace) (lent : Option ℕ) (words : List ℕ) →
-            Runs K.gives (guard_tree (given_of (H.behavior hands.now) input.now space lent) self.old words)
-            core.old core.new (acted self.new words result) }
+        ensures act { (space : PassSpace) (lent : Option ℕ) →
+            ActsAlone K.gives (guard_tree (given_of (H.behavior hands.now) input.now space lent)) self.old core.old self.new core.new result }
         ensures stays { Stays self.old self.new }
         ensures place { self.new.place ≡ self.old.place }
     {
@@ -62,9 +60,8 @@ impl Workspace {
 
     /// Guard, behind the test of the input's code.
     fn guard_call<H: Handler, K: Core>(&mut self, hands: &H, input: &[u8], core: &mut K) -> Ending
-        ensures act { (space : PassSpace) (lent : Option ℕ) (words : List ℕ) →
-            Runs K.gives (guard_call (given_of (H.behavior hands.now) input.now space lent) self.old words)
-            core.old core.new (acted self.new words result) }
+        ensures act { (space : PassSpace) (lent : Option ℕ) →
+            ActsAlone K.gives (guard_call (given_of (H.behavior hands.now) input.now space lent)) self.old core.old self.new core.new result }
         ensures stays { Stays self.old self.new }
         ensures place { self.new.place ≡ self.old.place }
     {
@@ -85,9 +82,8 @@ impl Workspace {
 
     /// Take 0.
     fn want_bucket<H: Handler, K: Core>(&mut self, hands: &H, input: &[u8], core: &mut K) -> Ending
-        ensures act { (space : PassSpace) (lent : Option ℕ) (words : List ℕ) →
-            Runs K.gives (store_wanted (given_of (H.behavior hands.now) input.now space lent) self.old words)
-            core.old core.new (acted self.new words result) }
+        ensures act { (space : PassSpace) (lent : Option ℕ) →
+            ActsAlone K.gives (store_wanted (given_of (H.behavior hands.now) input.now space lent)) self.old core.old self.new core.new result }
         ensures stays { Stays self.old self.new }
         ensures place { self.new.place ≡ self.old.place }
     {
@@ -101,8 +97,7 @@ impl Workspace {
 
     /// Take 1.
     fn take_bucket<K: Core>(&mut self, g: &Geometry, core: &mut K) -> Ending
-        ensures act { (words : List ℕ) →
-            Runs K.gives (closing_then Phase.Take self.old words (take_wanted g.now words)) core.old core.new (acted self.new words result) }
+        ensures act { ActsAlone K.gives (take_closing g.now) self.old core.old self.new core.new result }
         ensures stays { Stays self.old self.new }
         ensures place { self.new.place ≡ self.old.place }
     {
@@ -135,9 +130,8 @@ impl Workspace {
         space: &PassSpace,
         core: &mut K,
     ) -> Ending
-        ensures act { (lent : Option ℕ) (words : List ℕ) →
-            Runs K.gives (take_tree (given_of (H.behavior hands.now) input.now space.now lent) self.old.place.index self.old words)
-            core.old core.new (acted self.new words result) }
+        ensures act { (lent : Option ℕ) →
+            ActsAlone K.gives (take_tree (given_of (H.behavior hands.now) input.now space.now lent) self.old.place.index) self.old core.old self.new core.new result }
         ensures stays { Stays self.old self.new }
         ensures place { self.new.place ≡ self.old.place }
     {

@@ -1,116 +1,112 @@
 //! The acts of the two passes.
-ghost use Rattle.std.specs.Prelude.{◌≡◌, ◌≤◌, length};
-ghost use Rattle.sei_stmt.specs.Handling.{parsed_words};
-ghost use Rattle.sei_words.specs.LentBucket.{words_of, bucket_of, place_of, IsOf};
-ghost use Rattle.sei_pass.specs.Setting.{sealed_call};
-ghost use Rattle.sei_traverse.specs.Workspaces.{Stays};
-ghost use Rattle.sei_traverse.specs.Acts.{acted};
-ghost use Rattle.sei_traverse.specs.PassActs.{first_tree, second_tree};
-ghost use Rattle.sei_traverse.specs.Given.{given_of};
-ghost use Rattle.sei_traverse.specs.Step.{Timed};
+ghost use Rattle.std.specs.Prelude.{◌≡◌};
+ghost use Rattle.sei_words.specs.LentBucket.{place_of, IsOf};
+ghost use Rattle.sei_pass.specs.Frames.{outcome_of};
+ghost use Rattle.sei_traverse.specs.PassActs.{pass_phase, passing};
+ghost use Rattle.sei_traverse.specs.Work.{work, ActsAs, StepsIn};
+ghost use Rattle.sei_traverse.specs.Workspaces.{IsWorkspace, FitsIn, Stays};
 
+use crate::stepping::next_phase;
 use crate::turned::Want;
 use crate::workspace::{Ending, Workspace};
 use sei_fault::{Core, Phase, Place};
 use sei_outside::Clock;
-use sei_pass::{PassStep, Slots, Which};
+use sei_pass::{PassSpace, PassStep, Slots, Which};
 use sei_stmt::Handler;
 
+/// The phase of a pass.
+fn pass_phase(which: Which) -> Phase
+    ensures { result ≡ pass_phase which }
+{
+    match which {
+        Which::Making => Phase::First,
+        Which::Reading => Phase::Second,
+    }
+}
+
 impl Workspace {
-    /// A statement of the first pass.
+    /// Makes the statement at this place, in this pass.
     #[inline(always)]
-    pub fn first<H: Handler, L: Slots, K: Core, C: Clock>(
+    fn pass_step<H: Handler, L: Slots, K: Core, C: Clock>(
         &mut self,
+        which: Which,
         hands: &H,
         input: &[u8],
+        space: &PassSpace,
         lent: &mut L,
         core: &mut K,
         clock: &C,
-    ) -> Ending
-        requires room { length (parsed_words (sealed_call ((H.behavior hands.now).parsed input.now) self.old.sealed.nth)) ≤ self.old.first.input.room }
-        requires lent { IsOf self.old.first.space.geometry (L.lent_bucket lent.old) }
-        ensures act { Timed K.gives (C.told clock.now)
-            (λ now. first_tree (given_of (H.behavior hands.now) input.now self.old.first.space (bucket_of (L.lent_bucket lent.old)))
-            now self.old.place.index self.old (words_of (L.lent_bucket lent.old)))
-            core.old core.new (acted self.new (words_of (L.lent_bucket lent.new)) result) }
+    ) -> PassStep
+        requires workspace { IsWorkspace self.old }
+        requires space { self.old.first.space ≡ space.now }
+        requires room { FitsIn space.now ((H.behavior hands.now).parsed input.now) self.old.sealed }
+        requires lent { IsOf space.now.geometry (L.lent_bucket lent.old) }
+        ensures steps { StepsIn K.gives K.counts (C.told clock.now) (H.behavior hands.now) input.now space.now which
+            (work self.old (L.lent_bucket lent.old) core.old) (work self.new (L.lent_bucket lent.new) core.new) (outcome_of result) }
         ensures lent { place_of (L.lent_bucket lent.new) ≡ place_of (L.lent_bucket lent.old) }
         ensures stays { Stays self.old self.new }
         ensures place { self.new.place ≡ self.old.place }
     {
-        match self.first.step_on(
-            Which::Making,
-            hands,
-            input,
-            &self.sealed,
-            lent,
-            &mut self.first_log,
-            &mut self.notes,
-            core,
-            clock,
-            self.place.index,
-        ) {
-            PassStep::Next { index } => Ending::Leads(Place {
-                phase: Phase::First,
-                index,
-            }),
-            PassStep::Halted => self.close(
-                Phase::First,
-                Want::Nothing,
-                Place {
-                    phase: Phase::Restore,
-                    index: 0,
-                },
+        let index = self.place.index;
+        match which {
+            Which::Making => self.first.step_on(
+                which,
+                hands,
+                input,
+                &self.sealed,
+                lent,
+                &mut self.first_log,
+                &mut self.notes,
                 core,
+                clock,
+                index,
             ),
-            PassStep::Bad(cause) => Ending::Aborts(cause),
+            Which::Reading => self.second.step_on(
+                which,
+                hands,
+                input,
+                &self.sealed,
+                lent,
+                &mut self.second_log,
+                &mut self.notes,
+                core,
+                clock,
+                index,
+            ),
         }
     }
 
-    /// A statement of the second pass.
-    #[inline(always)]
-    pub fn second<H: Handler, L: Slots, K: Core, C: Clock>(
+    /// A statement of this pass.
+    pub fn pass<H: Handler, L: Slots, K: Core, C: Clock>(
         &mut self,
+        which: Which,
         hands: &H,
         input: &[u8],
+        space: &PassSpace,
         lent: &mut L,
         core: &mut K,
         clock: &C,
     ) -> Ending
-        requires room { length (parsed_words (sealed_call ((H.behavior hands.now).parsed input.now) self.old.sealed.nth)) ≤ self.old.second.input.room }
-        requires lent { IsOf self.old.second.space.geometry (L.lent_bucket lent.old) }
-        ensures act { Timed K.gives (C.told clock.now)
-            (λ now. second_tree (given_of (H.behavior hands.now) input.now self.old.second.space (bucket_of (L.lent_bucket lent.old)))
-            now self.old.place.index self.old (words_of (L.lent_bucket lent.old)))
-            core.old core.new (acted self.new (words_of (L.lent_bucket lent.new)) result) }
+        requires workspace { IsWorkspace self.old }
+        requires space { self.old.first.space ≡ space.now }
+        requires room { FitsIn space.now ((H.behavior hands.now).parsed input.now) self.old.sealed }
+        requires lent { IsOf space.now.geometry (L.lent_bucket lent.old) }
+        ensures act { ActsAs K.gives (C.told clock.now) (H.behavior hands.now) input.now space.now (passing which)
+            (work self.old (L.lent_bucket lent.old) core.old) (work self.new (L.lent_bucket lent.new) core.new) result }
         ensures lent { place_of (L.lent_bucket lent.new) ≡ place_of (L.lent_bucket lent.old) }
         ensures stays { Stays self.old self.new }
         ensures place { self.new.place ≡ self.old.place }
     {
-        match self.second.step_on(
-            Which::Reading,
-            hands,
-            input,
-            &self.sealed,
-            lent,
-            &mut self.second_log,
-            &mut self.notes,
-            core,
-            clock,
-            self.place.index,
-        ) {
-            PassStep::Next { index } => Ending::Leads(Place {
-                phase: Phase::Second,
-                index,
-            }),
-            PassStep::Halted => self.close(
-                Phase::Second,
-                Want::Nothing,
-                Place {
-                    phase: Phase::Compare,
+        let phase = pass_phase(which);
+        match self.pass_step(which, hands, input, space, lent, core, clock) {
+            PassStep::Next { index } => Ending::Leads(Place { phase, index }),
+            PassStep::Halted => {
+                let to = Place {
+                    phase: next_phase(phase),
                     index: 0,
-                },
-                core,
-            ),
+                };
+                self.close(phase, Want::Nothing, to, core)
+            }
             PassStep::Bad(cause) => Ending::Aborts(cause),
         }
     }

@@ -1,11 +1,10 @@
 //! The acts that undo the first pass.
-ghost use Rattle.std.specs.Prelude.{◌≡◌, ◌+◌, ◌-◌, ◌^◌, ◌<◌, length, slice_get};
-ghost use Rattle.sei_fault.specs.Tree.{Runs, bound};
-ghost use Rattle.sei_restore.specs.Undoing.{undo_at};
+ghost use Rattle.std.specs.Prelude.{◌≡◌, ◌+◌, ◌^◌, ◌<◌, length};
+ghost use Rattle.sei_fault.specs.Tree.{Runs};
 ghost use Rattle.sei_words.specs.LentBucket.{words_of, place_of};
 ghost use Rattle.sei_traverse.specs.Workspaces.{Stays};
 ghost use Rattle.sei_traverse.specs.Acts.{acted};
-ghost use Rattle.sei_traverse.specs.Phases.{restore_tree, undone_to};
+ghost use Rattle.sei_traverse.specs.Phases.{undo_tree, restore_tree};
 
 use crate::turned::Want;
 use crate::workspace::{Ending, Workspace};
@@ -41,7 +40,7 @@ impl Workspace {
     fn undo_change<L: Lent, K: Core>(&mut self, lent: &mut L, core: &mut K) -> Ending
         requires there { self.old.place.index < length self.old.first_log.items }
         requires index { self.old.place.index + 1 < 2 ^ 64 }
-        ensures act { Runs K.gives (bound (undo_at (words_of (L.lent_bucket lent.old)) (slice_get self.old.first_log.items (length self.old.first_log.items - 1 - self.old.place.index))) (undone_to self.old self.old.place.index))
+        ensures act { Runs K.gives (undo_tree self.old.place.index self.old (words_of (L.lent_bucket lent.old)))
             core.old core.new (acted self.new (words_of (L.lent_bucket lent.new)) result) }
         ensures lent { place_of (L.lent_bucket lent.new) ≡ place_of (L.lent_bucket lent.old) }
         ensures stays { Stays self.old self.new }

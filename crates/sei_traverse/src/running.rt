@@ -1,15 +1,12 @@
 //! One step of a traversal, and many at once. Those of the passes are made as the loop over a pass makes them.
-ghost use Rattle.std.specs.Prelude.{◌≡◌, ℕ, ◌+◌, ◌<◌, ◌≤◌, ◌^◌, List, length, true, false};
-ghost use Rattle.sei_fault.specs.Tree.{Runs, bound};
-ghost use Rattle.sei_stmt.specs.Handling.{parsed_words};
-ghost use Rattle.sei_words.specs.LentBucket.{words_of, bucket_of, place_of, IsOf};
+ghost use Rattle.std.specs.Prelude.{◌≡◌, ℕ, List, true, false};
+ghost use Rattle.sei_fault.specs.Tree.{Runs};
+ghost use Rattle.sei_words.specs.LentBucket.{place_of, IsOf};
 ghost use Rattle.sei_pass.specs.Loop.{HasIndexAfter};
-ghost use Rattle.sei_pass.specs.Setting.{sealed_call};
-ghost use Rattle.sei_traverse.specs.Acts.{at, closes};
-ghost use Rattle.sei_traverse.specs.Running.{on, rest, BeginsStep, RunsOn, begun_at, left_at};
-ghost use Rattle.sei_traverse.specs.Given.{given_of};
-ghost use Rattle.sei_traverse.specs.Step.{next_phase, goes_on, step_result, TimedTwice};
-ghost use Rattle.sei_traverse.specs.Workspaces.{IsWorkspace, Stays};
+ghost use Rattle.sei_traverse.specs.Running.{halted_tree, rest, BeginsStep, RunsAs};
+ghost use Rattle.sei_traverse.specs.Step.{step_result};
+ghost use Rattle.sei_traverse.specs.Work.{work, TurnsAs};
+ghost use Rattle.sei_traverse.specs.Workspaces.{IsWorkspace, FitsIn, Stays};
 
 use crate::stepping::{arrive, next_phase};
 use crate::turned::{Abort, Many, State, Turned, Want};
@@ -22,7 +19,7 @@ use sei_stmt::Handler;
 impl Workspace {
     /// Closes the phase of a pass, and goes on to the next phase.
     fn halt<K: Core>(&mut self, core: &mut K) -> State
-        ensures halted { (words : List ℕ) → Runs K.gives (bound (closes self.old.place.phase self.old words Want.Nothing (at (next_phase self.old.place.phase) 0)) goes_on) core.old core.new (step_result self.new words result) }
+        ensures halted { (words : List ℕ) → Runs K.gives (halted_tree self.old words) core.old core.new (step_result self.new words result) }
         ensures stays { Stays self.old self.new }
     {
         let phase = self.place.phase;
@@ -49,12 +46,11 @@ impl Workspace {
     ) -> State
         requires workspace { IsWorkspace self.old }
         requires space { self.old.first.space ≡ space.now }
-        requires room { length (parsed_words (sealed_call ((H.behavior hands.now).parsed input.now) self.old.sealed.nth)) ≤ space.now.input }
+        requires room { FitsIn space.now ((H.behavior hands.now).parsed input.now) self.old.sealed }
         requires index { HasIndexAfter exit self.old.place.index }
         requires lent { IsOf space.now.geometry (L.lent_bucket lent.old) }
-        ensures rest { TimedTwice K.gives (C.told clock.now)
-            (λ now later. rest (given_of (H.behavior hands.now) input.now space.now (bucket_of (L.lent_bucket lent.old))) now later self.old (words_of (L.lent_bucket lent.old)) exit)
-            core.old core.new (step_result self.new (words_of (L.lent_bucket lent.new)) result) }
+        ensures rest { TurnsAs K.gives (C.told clock.now) (H.behavior hands.now) input.now space.now (rest exit)
+            (work self.old (L.lent_bucket lent.old) core.old) (work self.new (L.lent_bucket lent.new) core.new) result }
         ensures lent { place_of (L.lent_bucket lent.new) ≡ place_of (L.lent_bucket lent.old) }
         ensures stays { Stays self.old self.new }
     {
@@ -93,7 +89,7 @@ impl Workspace {
         requires workspace { IsWorkspace self.old }
         requires first { self.old.place.phase ≡ Phase.First }
         ensures begins { BeginsStep K.gives (H.behavior hands.now)
-            self.old (L.lent_bucket lent.old) core.old self.new (L.lent_bucket lent.new) core.new exit.new result }
+            (work self.old (L.lent_bucket lent.old) core.old) (work self.new (L.lent_bucket lent.new) core.new) exit.new result }
         ensures after { result ≡ false → HasIndexAfter exit.new self.new.place.index }
         ensures want { result ≡ true → self.new.want ≡ Want.Nothing }
         ensures lent { place_of (L.lent_bucket lent.new) ≡ place_of (L.lent_bucket lent.old) }
@@ -133,7 +129,7 @@ impl Workspace {
         requires workspace { IsWorkspace self.old }
         requires second { self.old.place.phase ≡ Phase.Second }
         ensures begins { BeginsStep K.gives (H.behavior hands.now)
-            self.old (L.lent_bucket lent.old) core.old self.new (L.lent_bucket lent.new) core.new exit.new result }
+            (work self.old (L.lent_bucket lent.old) core.old) (work self.new (L.lent_bucket lent.new) core.new) exit.new result }
         ensures after { result ≡ false → HasIndexAfter exit.new self.new.place.index }
         ensures want { result ≡ true → self.new.want ≡ Want.Nothing }
         ensures lent { place_of (L.lent_bucket lent.new) ≡ place_of (L.lent_bucket lent.old) }
@@ -173,7 +169,7 @@ impl Workspace {
     ) -> bool
         requires workspace { IsWorkspace self.old }
         ensures begins { BeginsStep K.gives (H.behavior hands.now)
-            self.old (L.lent_bucket lent.old) core.old self.new (L.lent_bucket lent.new) core.new exit.new result }
+            (work self.old (L.lent_bucket lent.old) core.old) (work self.new (L.lent_bucket lent.new) core.new) exit.new result }
         ensures after { result ≡ false → HasIndexAfter exit.new self.new.place.index }
         ensures want { result ≡ true → self.new.want ≡ Want.Nothing }
         ensures lent { place_of (L.lent_bucket lent.new) ≡ place_of (L.lent_bucket lent.old) }
@@ -205,12 +201,11 @@ impl Workspace {
     ) -> Many
         requires workspace { IsWorkspace self.old }
         requires space { self.old.first.space ≡ space.now }
-        requires room { length (parsed_words (sealed_call ((H.behavior hands.now).parsed input.now) self.old.sealed.nth)) ≤ space.now.input }
+        requires room { FitsIn space.now ((H.behavior hands.now).parsed input.now) self.old.sealed }
         requires lent { IsOf space.now.geometry (L.lent_bucket lent.old) }
         requires first { self.old.place.phase ≡ Phase.First }
-        ensures run { (steps : ℕ) → steps < 2 ^ 64 →
-            RunsOn K.gives K.counts (C.told clock.now) (H.behavior hands.now) input.now result.before
-            (on (begun_at self.old space.now steps) (L.lent_bucket lent.old) core.old) (on (left_at self.new space.now steps result) (L.lent_bucket lent.new) core.new) result.turned }
+        ensures run { RunsAs K.gives K.counts (C.told clock.now) (H.behavior hands.now) input.now space.now
+            (work self.old (L.lent_bucket lent.old) core.old) (work self.new (L.lent_bucket lent.new) core.new) result }
         ensures stays { Stays self.old self.new }
     {
         self.want = Want::Nothing;
@@ -244,12 +239,11 @@ impl Workspace {
     ) -> Many
         requires workspace { IsWorkspace self.old }
         requires space { self.old.first.space ≡ space.now }
-        requires room { length (parsed_words (sealed_call ((H.behavior hands.now).parsed input.now) self.old.sealed.nth)) ≤ space.now.input }
+        requires room { FitsIn space.now ((H.behavior hands.now).parsed input.now) self.old.sealed }
         requires lent { IsOf space.now.geometry (L.lent_bucket lent.old) }
         requires second { self.old.place.phase ≡ Phase.Second }
-        ensures run { (steps : ℕ) → steps < 2 ^ 64 →
-            RunsOn K.gives K.counts (C.told clock.now) (H.behavior hands.now) input.now result.before
-            (on (begun_at self.old space.now steps) (L.lent_bucket lent.old) core.old) (on (left_at self.new space.now steps result) (L.lent_bucket lent.new) core.new) result.turned }
+        ensures run { RunsAs K.gives K.counts (C.told clock.now) (H.behavior hands.now) input.now space.now
+            (work self.old (L.lent_bucket lent.old) core.old) (work self.new (L.lent_bucket lent.new) core.new) result }
         ensures stays { Stays self.old self.new }
     {
         self.want = Want::Nothing;
@@ -281,11 +275,10 @@ impl Workspace {
     ) -> Many
         requires workspace { IsWorkspace self.old }
         requires space { self.old.first.space ≡ space.now }
-        requires room { length (parsed_words (sealed_call ((H.behavior hands.now).parsed input.now) self.old.sealed.nth)) ≤ space.now.input }
+        requires room { FitsIn space.now ((H.behavior hands.now).parsed input.now) self.old.sealed }
         requires lent { IsOf space.now.geometry (L.lent_bucket lent.old) }
-        ensures run { (steps : ℕ) → steps < 2 ^ 64 →
-            RunsOn K.gives K.counts (C.told clock.now) (H.behavior hands.now) input.now result.before
-            (on (begun_at self.old space.now steps) (L.lent_bucket lent.old) core.old) (on (left_at self.new space.now steps result) (L.lent_bucket lent.new) core.new) result.turned }
+        ensures run { RunsAs K.gives K.counts (C.told clock.now) (H.behavior hands.now) input.now space.now
+            (work self.old (L.lent_bucket lent.old) core.old) (work self.new (L.lent_bucket lent.new) core.new) result }
         ensures stays { Stays self.old self.new }
     {
         let state = self.step_alone(hands, input, space, lent, core, clock);
@@ -312,11 +305,10 @@ impl Workspace {
     ) -> Many
         requires workspace { IsWorkspace self.old }
         requires space { self.old.first.space ≡ space.now }
-        requires room { length (parsed_words (sealed_call ((H.behavior hands.now).parsed input.now) self.old.sealed.nth)) ≤ space.now.input }
+        requires room { FitsIn space.now ((H.behavior hands.now).parsed input.now) self.old.sealed }
         requires lent { IsOf space.now.geometry (L.lent_bucket lent.old) }
-        ensures run { (steps : ℕ) → steps < 2 ^ 64 →
-            RunsOn K.gives K.counts (C.told clock.now) (H.behavior hands.now) input.now result.before
-            (on (begun_at self.old space.now steps) (L.lent_bucket lent.old) core.old) (on (left_at self.new space.now steps result) (L.lent_bucket lent.new) core.new) result.turned }
+        ensures run { RunsAs K.gives K.counts (C.told clock.now) (H.behavior hands.now) input.now space.now
+            (work self.old (L.lent_bucket lent.old) core.old) (work self.new (L.lent_bucket lent.new) core.new) result }
         ensures stays { Stays self.old self.new }
     {
         match self.place.phase {

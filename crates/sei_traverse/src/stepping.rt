@@ -1,12 +1,12 @@
 //! What each step of a traversal does: how often its act is made, and where it goes on.
-ghost use Rattle.std.specs.Prelude.{◌≡◌, ℕ, ◌+◌, ◌<◌, ◌≤◌, ◌^◌, IfSome, List, Some, length};
-ghost use Rattle.sei_fault.specs.Tree.{Runs, bound};
-ghost use Rattle.sei_stmt.specs.Handling.{parsed_words};
-ghost use Rattle.sei_words.specs.LentBucket.{words_of, bucket_of, place_of, IsOf};
-ghost use Rattle.sei_pass.specs.Setting.{sealed_call};
-ghost use Rattle.sei_traverse.specs.Given.{given_of};
-ghost use Rattle.sei_traverse.specs.Step.{site_of, next_phase, is_halt, is_last, skipped, step_result, arrival, is_end, plain_below, goes, goes_from, once, act_tree, twice, step_at, traversal_step, Timed, TimedTwice};
-ghost use Rattle.sei_traverse.specs.Workspaces.{IsWorkspace, Stays};
+ghost use Rattle.std.specs.Prelude.{◌≡◌, ℕ, ◌+◌, ◌<◌, ◌^◌, IfSome, List};
+ghost use Rattle.sei_fault.specs.Tree.{Runs};
+ghost use Rattle.sei_words.specs.LentBucket.{place_of, IsOf};
+ghost use Rattle.sei_traverse.specs.Acts.{next_phase};
+ghost use Rattle.sei_traverse.specs.Step.{site_of, is_halt, is_last, skipped, step_result, arrival, is_end, plain_below, goes, goes_from};
+ghost use Rattle.sei_traverse.specs.Step.{once, made_twice, step_of, traversal_step};
+ghost use Rattle.sei_traverse.specs.Work.{work, GoesAs, TurnsAs};
+ghost use Rattle.sei_traverse.specs.Workspaces.{IsWorkspace, FitsIn, Stays};
 
 use crate::turned::{Abort, State, Want};
 use crate::workspace::{Ending, Workspace};
@@ -179,12 +179,11 @@ impl Workspace {
     ) -> State
         requires workspace { IsWorkspace self.old }
         requires space { self.old.first.space ≡ space.now }
-        requires room { length (parsed_words (sealed_call ((H.behavior hands.now).parsed input.now) self.old.sealed.nth)) ≤ space.now.input }
+        requires room { FitsIn space.now ((H.behavior hands.now).parsed input.now) self.old.sealed }
         requires index { self.old.place.index + 1 < 2 ^ 64 }
         requires lent { IsOf space.now.geometry (L.lent_bucket lent.old) }
-        ensures once { Timed K.gives (C.told clock.now)
-            (λ now. once (given_of (H.behavior hands.now) input.now space.now (bucket_of (L.lent_bucket lent.old))) now self.old (words_of (L.lent_bucket lent.old)))
-            core.old core.new (step_result self.new (words_of (L.lent_bucket lent.new)) result) }
+        ensures once { GoesAs K.gives (C.told clock.now) (H.behavior hands.now) input.now space.now once
+            (work self.old (L.lent_bucket lent.old) core.old) (work self.new (L.lent_bucket lent.new) core.new) result }
         ensures lent { place_of (L.lent_bucket lent.new) ≡ place_of (L.lent_bucket lent.old) }
         ensures stays { Stays self.old self.new }
     {
@@ -205,12 +204,11 @@ impl Workspace {
     ) -> State
         requires workspace { IsWorkspace self.old }
         requires space { self.old.first.space ≡ space.now }
-        requires room { length (parsed_words (sealed_call ((H.behavior hands.now).parsed input.now) self.old.sealed.nth)) ≤ space.now.input }
+        requires room { FitsIn space.now ((H.behavior hands.now).parsed input.now) self.old.sealed }
         requires index { self.old.place.index + 1 < 2 ^ 64 }
         requires lent { IsOf space.now.geometry (L.lent_bucket lent.old) }
-        ensures twice { TimedTwice K.gives (C.told clock.now)
-            (λ now later. bound (act_tree (given_of (H.behavior hands.now) input.now space.now (bucket_of (L.lent_bucket lent.old))) now self.old (words_of (L.lent_bucket lent.old))) (twice (given_of (H.behavior hands.now) input.now space.now (bucket_of (L.lent_bucket lent.old))) later))
-            core.old core.new (step_result self.new (words_of (L.lent_bucket lent.new)) result) }
+        ensures twice { TurnsAs K.gives (C.told clock.now) (H.behavior hands.now) input.now space.now made_twice
+            (work self.old (L.lent_bucket lent.old) core.old) (work self.new (L.lent_bucket lent.new) core.new) result }
         ensures lent { place_of (L.lent_bucket lent.new) ≡ place_of (L.lent_bucket lent.old) }
         ensures stays { Stays self.old self.new }
     {
@@ -238,12 +236,11 @@ impl Workspace {
     ) -> State
         requires workspace { IsWorkspace self.old }
         requires space { self.old.first.space ≡ space.now }
-        requires room { length (parsed_words (sealed_call ((H.behavior hands.now).parsed input.now) self.old.sealed.nth)) ≤ space.now.input }
+        requires room { FitsIn space.now ((H.behavior hands.now).parsed input.now) self.old.sealed }
         requires index { self.old.place.index + 1 < 2 ^ 64 }
         requires lent { IsOf space.now.geometry (L.lent_bucket lent.old) }
-        ensures turned { TimedTwice K.gives (C.told clock.now)
-            (λ now later. step_at (given_of (H.behavior hands.now) input.now space.now (bucket_of (L.lent_bucket lent.old))) now later self.old (words_of (L.lent_bucket lent.old)) (Some act))
-            core.old core.new (step_result self.new (words_of (L.lent_bucket lent.new)) result) }
+        ensures turned { TurnsAs K.gives (C.told clock.now) (H.behavior hands.now) input.now space.now (step_of act)
+            (work self.old (L.lent_bucket lent.old) core.old) (work self.new (L.lent_bucket lent.new) core.new) result }
         ensures lent { place_of (L.lent_bucket lent.new) ≡ place_of (L.lent_bucket lent.old) }
         ensures stays { Stays self.old self.new }
     {
@@ -274,11 +271,10 @@ impl Workspace {
     ) -> State
         requires workspace { IsWorkspace self.old }
         requires space { self.old.first.space ≡ space.now }
-        requires room { length (parsed_words (sealed_call ((H.behavior hands.now).parsed input.now) self.old.sealed.nth)) ≤ space.now.input }
+        requires room { FitsIn space.now ((H.behavior hands.now).parsed input.now) self.old.sealed }
         requires lent { IsOf space.now.geometry (L.lent_bucket lent.old) }
-        ensures turned { TimedTwice K.gives (C.told clock.now)
-            (λ now later. traversal_step (given_of (H.behavior hands.now) input.now space.now (bucket_of (L.lent_bucket lent.old))) now later self.old (words_of (L.lent_bucket lent.old)))
-            core.old core.new (step_result self.new (words_of (L.lent_bucket lent.new)) result) }
+        ensures turned { TurnsAs K.gives (C.told clock.now) (H.behavior hands.now) input.now space.now traversal_step
+            (work self.old (L.lent_bucket lent.old) core.old) (work self.new (L.lent_bucket lent.new) core.new) result }
         ensures lent { place_of (L.lent_bucket lent.new) ≡ place_of (L.lent_bucket lent.old) }
         ensures stays { Stays self.old self.new }
     {

@@ -1,22 +1,16 @@
 //! A traversal.
-ghost use Rattle.std.specs.Prelude.{◌≡◌, ℕ, ◌+◌, ◌-◌, ◌^◌, ◌<◌, ◌≤◌, IfOk, IfSome, length, min, true, false, Some, None};
+ghost use Rattle.std.specs.Prelude.{◌≡◌, ◌<◌, ◌≤◌, ◌^◌, IfOk, IfSome, length, true, false};
 ghost use Rattle.mc_model.specs.Server.{IsValid};
 ghost use Rattle.sei_code.specs.declared.modes.Mode.{Mode};
-ghost use Rattle.sei_fault.specs.Counts.{Counts};
-ghost use Rattle.sei_stmt.specs.Handling.{parsed_words};
 ghost use Rattle.sei_words.specs.Exits.{lent_at, lent_left};
 ghost use Rattle.sei_words.specs.LentBucket.{IsOf};
-ghost use Rattle.sei_pass.specs.Setting.{sealed_call};
 ghost use Rattle.sei_pass.specs.Spaces.{pass_space};
-ghost use Rattle.sei_traverse.specs.Bounds.{most_steps, StepsWithin, StepsAfter};
-ghost use Rattle.sei_traverse.specs.CallContext.{CallContext, IsCallContext};
-ghost use Rattle.sei_traverse.specs.FaultInvariant.{FaultInvariant, LendsWanted, Isolates};
-ghost use Rattle.sei_traverse.specs.OnWay.{lent_words, Lends, TellsAs, OnWay, StaysOnWay, IsUnfit};
+ghost use Rattle.sei_traverse.specs.Bounds.{most_steps};
 ghost use Rattle.sei_traverse.specs.Phases.{reply_of};
+ghost use Rattle.sei_traverse.specs.Promises.{KeepsBound, KeepsRoom, KeepsOnWay, KeepsIsolated, RefusesUnfit};
 ghost use Rattle.sei_traverse.specs.Running.{on, Makes, RunsOn};
-ghost use Rattle.sei_traverse.specs.Given.{given_of};
 ghost use Rattle.sei_traverse.specs.State.{IsTraversal, begun_traversal, noted_time};
-ghost use Rattle.sei_traverse.specs.Trusted.{IsTrusted};
+ghost use Rattle.sei_traverse.specs.Workspaces.{FitsIn};
 
 use crate::turned::{Many, State, Turned, Want};
 use crate::workspace::{NO_NOTES, Workspace};
@@ -184,34 +178,28 @@ impl Traversal {
     ) -> Turned
         requires running { self.old.running ≡ true }
         // The input words of the passes have room for what the hands make of the input.
-        requires room { length (parsed_words (sealed_call ((H.behavior hands.now).parsed input.now) self.old.workspace.sealed.nth)) ≤ self.old.space.input }
+        requires room { FitsIn self.old.space ((H.behavior hands.now).parsed input.now) self.old.workspace.sealed }
         // What is lent is of the traversal's geometry.
         requires lent { IsOf self.old.space.geometry (lent_at lent) }
         // The step is that of the definition, whatever the core answers.
         ensures makes { Makes K.gives K.counts (C.told clock.now) (H.behavior hands.now) input.now
             (on self.old (lent_at lent.entry) core.old) (on self.new (lent_left lent.exit) core.new) result }
         // Each step but a struck one comes further, so with one strike at most the number of steps is bounded.
-        ensures within { (begin : Counts) → StepsWithin self.old begin (K.counts core.old) → StepsAfter self.new begin (K.counts core.new) result.state }
-        // Where the core tells how many strikes can still fall, it still does, and each strike is one less.
-        ensures room { (r : ℕ) → (K.counts core.old).room ≡ Some r →
-            (s : ℕ) × ((K.counts core.new).room ≡ Some s) × ((K.counts core.new).struck + s ≡ (K.counts core.old).struck + r) }
-        // A traversal that is on its way stays on it: it is refused or aborts only where a strike fell since it began,
+        ensures within { KeepsBound K.counts (on self.old (lent_at lent.entry) core.old) (on self.new (lent_left lent.exit) core.new) result }
+        // If the core tells how many strikes can still fall, it still does, and each strike is one less.
+        ensures room { KeepsRoom K.counts (on self.old (lent_at lent.entry) core.old) (on self.new (lent_left lent.exit) core.new) }
+        // A traversal that is on its way stays on it: it is refused or aborts only if a strike fell since it began,
         // and otherwise stands where its definition leads, or has come to its end.
-        ensures on_way { (e : CallContext) (begin : Counts) → IsCallContext e → TellsAs e.clock (C.told clock.now) →
-            e.behavior ≡ H.behavior hands.now → e.input ≡ input.now →
-            Lends e self.old.workspace.place.phase (lent_at lent.entry) → OnWay e self.old (lent_words (lent_at lent.entry)) begin (K.counts core.old) →
-            StaysOnWay e self.old self.new (lent_words (lent_left lent.exit)) begin (K.counts core.new) result.want result.state }
-        // One strike is isolated: what is known of a traversal is known behind each step; what it wants is so, and is wanted
-        // but once; it aborts only where a strike fell, and is refused only before Take is closed. Where the caller follows
-        // what is wanted, it lends what the next step asks for.
-        ensures isolated { (e : CallContext) (begin : Counts) → IsTrusted e → TellsAs e.clock (C.told clock.now) →
-            e.behavior ≡ H.behavior hands.now → e.input ≡ input.now →
-            LendsWanted self.old.workspace (lent_at lent.entry) → FaultInvariant e self.old (lent_words (lent_at lent.entry)) begin (K.counts core.old) →
-            (K.counts core.new).struck ≤ begin.struck + 1 →
-            Isolates e self.old self.new (lent_at lent.entry) (lent_left lent.exit) begin (K.counts core.new) result.want result.state }
+        ensures on_way { KeepsOnWay K.counts (C.told clock.now) (H.behavior hands.now) input.now
+            (on self.old (lent_at lent.entry) core.old) (on self.new (lent_left lent.exit) core.new) result }
+        // One strike is isolated: what is known of a traversal is known after each step; what it wants is so, and is wanted
+        // but once; it aborts only if a strike fell, and is refused only before Take is closed. If the caller follows what
+        // is wanted, it lends what the next step asks for.
+        ensures isolated { KeepsIsolated K.counts (C.told clock.now) (H.behavior hands.now) input.now
+            (on self.old (lent_at lent.entry) core.old) (on self.new (lent_left lent.exit) core.new) result }
         // Without a strike an input that does not pass the tests of Guard is refused.
-        ensures refused { IsUnfit (given_of (H.behavior hands.now) input.now self.old.space None) self.old.workspace →
-            (K.counts core.new).struck ≡ (K.counts core.old).struck → result.state ≡ State.Refused }
+        ensures refused { RefusesUnfit K.counts (H.behavior hands.now) input.now
+            (on self.old (lent_at lent.entry) core.old) (on self.new (lent_left lent.exit) core.new) result }
     {
         match lent {
             None => self.step_on(hands, input, &mut NoBucket, core, clock),
@@ -230,24 +218,18 @@ impl Traversal {
         clock: &C,
     ) -> Turned
         requires running { self.old.running ≡ true }
-        requires room { length (parsed_words (sealed_call ((H.behavior hands.now).parsed input.now) self.old.workspace.sealed.nth)) ≤ self.old.space.input }
+        requires room { FitsIn self.old.space ((H.behavior hands.now).parsed input.now) self.old.workspace.sealed }
         requires lent { IsOf self.old.space.geometry (L.lent_bucket lent.old) }
         ensures makes { Makes K.gives K.counts (C.told clock.now) (H.behavior hands.now) input.now
             (on self.old (L.lent_bucket lent.old) core.old) (on self.new (L.lent_bucket lent.new) core.new) result }
-        ensures within { (begin : Counts) → StepsWithin self.old begin (K.counts core.old) → StepsAfter self.new begin (K.counts core.new) result.state }
-        ensures room { (r : ℕ) → (K.counts core.old).room ≡ Some r →
-            (s : ℕ) × ((K.counts core.new).room ≡ Some s) × ((K.counts core.new).struck + s ≡ (K.counts core.old).struck + r) }
-        ensures on_way { (e : CallContext) (begin : Counts) → IsCallContext e → TellsAs e.clock (C.told clock.now) →
-            e.behavior ≡ H.behavior hands.now → e.input ≡ input.now →
-            Lends e self.old.workspace.place.phase (L.lent_bucket lent.old) → OnWay e self.old (lent_words (L.lent_bucket lent.old)) begin (K.counts core.old) →
-            StaysOnWay e self.old self.new (lent_words (L.lent_bucket lent.new)) begin (K.counts core.new) result.want result.state }
-        ensures isolated { (e : CallContext) (begin : Counts) → IsTrusted e → TellsAs e.clock (C.told clock.now) →
-            e.behavior ≡ H.behavior hands.now → e.input ≡ input.now →
-            LendsWanted self.old.workspace (L.lent_bucket lent.old) → FaultInvariant e self.old (lent_words (L.lent_bucket lent.old)) begin (K.counts core.old) →
-            (K.counts core.new).struck ≤ begin.struck + 1 →
-            Isolates e self.old self.new (L.lent_bucket lent.old) (L.lent_bucket lent.new) begin (K.counts core.new) result.want result.state }
-        ensures refused { IsUnfit (given_of (H.behavior hands.now) input.now self.old.space None) self.old.workspace →
-            (K.counts core.new).struck ≡ (K.counts core.old).struck → result.state ≡ State.Refused }
+        ensures within { KeepsBound K.counts (on self.old (L.lent_bucket lent.old) core.old) (on self.new (L.lent_bucket lent.new) core.new) result }
+        ensures room { KeepsRoom K.counts (on self.old (L.lent_bucket lent.old) core.old) (on self.new (L.lent_bucket lent.new) core.new) }
+        ensures on_way { KeepsOnWay K.counts (C.told clock.now) (H.behavior hands.now) input.now
+            (on self.old (L.lent_bucket lent.old) core.old) (on self.new (L.lent_bucket lent.new) core.new) result }
+        ensures isolated { KeepsIsolated K.counts (C.told clock.now) (H.behavior hands.now) input.now
+            (on self.old (L.lent_bucket lent.old) core.old) (on self.new (L.lent_bucket lent.new) core.new) result }
+        ensures refused { RefusesUnfit K.counts (H.behavior hands.now) input.now
+            (on self.old (L.lent_bucket lent.old) core.old) (on self.new (L.lent_bucket lent.new) core.new) result }
     {
         self.make(hands, input, lent, core, clock)
     }
@@ -263,7 +245,7 @@ impl Traversal {
         clock: &C,
     ) -> Turned
         requires running { self.old.running ≡ true }
-        requires room { length (parsed_words (sealed_call ((H.behavior hands.now).parsed input.now) self.old.workspace.sealed.nth)) ≤ self.old.space.input }
+        requires room { FitsIn self.old.space ((H.behavior hands.now).parsed input.now) self.old.workspace.sealed }
         requires lent { IsOf self.old.space.geometry (L.lent_bucket lent.old) }
         ensures makes { Makes K.gives K.counts (C.told clock.now) (H.behavior hands.now) input.now
             (on self.old (L.lent_bucket lent.old) core.old) (on self.new (L.lent_bucket lent.new) core.new) result }
@@ -300,7 +282,7 @@ impl Traversal {
         clock: &C,
     ) -> Many
         requires running { self.old.running ≡ true }
-        requires room { length (parsed_words (sealed_call ((H.behavior hands.now).parsed input.now) self.old.workspace.sealed.nth)) ≤ self.old.space.input }
+        requires room { FitsIn self.old.space ((H.behavior hands.now).parsed input.now) self.old.workspace.sealed }
         requires lent { IsOf self.old.space.geometry (lent_at lent) }
         // So many steps that want nothing, and one more: each is that of the definition, whatever the core answers.
         ensures run { RunsOn K.gives K.counts (C.told clock.now) (H.behavior hands.now) input.now result.before
@@ -322,7 +304,7 @@ impl Traversal {
         clock: &C,
     ) -> Many
         requires running { self.old.running ≡ true }
-        requires room { length (parsed_words (sealed_call ((H.behavior hands.now).parsed input.now) self.old.workspace.sealed.nth)) ≤ self.old.space.input }
+        requires room { FitsIn self.old.space ((H.behavior hands.now).parsed input.now) self.old.workspace.sealed }
         requires lent { IsOf self.old.space.geometry (L.lent_bucket lent.old) }
         ensures run { RunsOn K.gives K.counts (C.told clock.now) (H.behavior hands.now) input.now result.before
             (on self.old (L.lent_bucket lent.old) core.old) (on self.new (L.lent_bucket lent.new) core.new) result.turned }

@@ -1,12 +1,12 @@
 //! The acts that read the changed words back, and that make and test the copy for the wire.
-ghost use Rattle.std.specs.Prelude.{◌≡◌, ℕ, ◌+◌, ◌^◌, ◌<◌, ◌≤◌, List, length, slice_get};
+ghost use Rattle.std.specs.Prelude.{◌≡◌, ◌+◌, ◌^◌, ◌<◌, ◌≤◌, length};
 ghost use Rattle.sei_code.specs.declared.modes.Mode.{Mode};
-ghost use Rattle.sei_compare.specs.Comparing.{word_at, wire_tree};
-ghost use Rattle.sei_fault.specs.Tree.{Runs, bound};
+ghost use Rattle.sei_fault.specs.Tree.{Runs};
 ghost use Rattle.sei_words.specs.LentBucket.{words_of};
-ghost use Rattle.sei_traverse.specs.Workspaces.{Stays};
 ghost use Rattle.sei_traverse.specs.Acts.{acted};
-ghost use Rattle.sei_traverse.specs.Phases.{verify_tree, verify_copy, word_to, copy_bytes, wire_to};
+ghost use Rattle.sei_traverse.specs.Phases.{verify_tree, read_back, verify_copy, copy_tree, copy_test};
+ghost use Rattle.sei_traverse.specs.Work.{ActsAlone};
+ghost use Rattle.sei_traverse.specs.Workspaces.{Stays};
 
 use crate::turned::Want;
 use crate::workspace::{Ending, Workspace};
@@ -36,7 +36,7 @@ impl Workspace {
     fn verify_word<L: Lent, K: Core>(&mut self, lent: &L, core: &mut K) -> Ending
         requires there { self.old.place.index < length self.old.second_log.items }
         requires index { self.old.place.index + 1 < 2 ^ 64 }
-        ensures act { Runs K.gives (bound (word_at (words_of (L.lent_bucket lent.now)) (slice_get self.old.second_log.items self.old.place.index)) (word_to self.old (words_of (L.lent_bucket lent.now)) self.old.place.index))
+        ensures act { Runs K.gives (read_back self.old.place.index self.old (words_of (L.lent_bucket lent.now)))
             core.old core.new (acted self.new (words_of (L.lent_bucket lent.now)) result) }
         ensures stays { Stays self.old self.new }
         ensures place { self.new.place ≡ self.old.place }
@@ -56,7 +56,7 @@ impl Workspace {
     fn verify_copy<K: Core>(&mut self, core: &mut K) -> Ending
         requires fits { length self.old.second.bytes.items ≤ self.old.wire.room }
         requires index { self.old.place.index + 1 < 2 ^ 64 }
-        ensures act { (words : List ℕ) → Runs K.gives (verify_copy self.old.place.index self.old words) core.old core.new (acted self.new words result) }
+        ensures act { ActsAlone K.gives (verify_copy self.old.place.index) self.old core.old self.new core.new result }
         ensures stays { Stays self.old self.new }
         ensures place { self.new.place ≡ self.old.place }
     {
@@ -71,7 +71,7 @@ impl Workspace {
     fn make_copy<K: Core>(&mut self, core: &mut K) -> Ending
         requires fits { length self.old.second.bytes.items ≤ self.old.wire.room }
         requires index { self.old.place.index + 1 < 2 ^ 64 }
-        ensures act { (words : List ℕ) → Runs K.gives (copy_bytes self.old words self.old.place.index self.old.second.bytes.items) core.old core.new (acted self.new words result) }
+        ensures act { ActsAlone K.gives (copy_tree self.old.place.index) self.old core.old self.new core.new result }
         ensures stays { Stays self.old self.new }
         ensures place { self.new.place ≡ self.old.place }
     {
@@ -96,8 +96,7 @@ impl Workspace {
 
     /// Tests the copy for the wire.
     fn test_copy<K: Core>(&mut self, core: &mut K) -> Ending
-        ensures act { (words : List ℕ) → Runs K.gives (bound (wire_tree self.old.sealed.answer self.old.first.code self.old.first.bytes.items self.old.wire.items) (wire_to self.old words))
-            core.old core.new (acted self.new words result) }
+        ensures act { ActsAlone K.gives copy_test self.old core.old self.new core.new result }
         ensures stays { Stays self.old self.new }
         ensures place { self.new.place ≡ self.old.place }
     {

@@ -1,13 +1,13 @@
 //! What the acts of a traversal work on.
-ghost use Rattle.std.specs.Prelude.{◌≡◌, ℕ, List, IfOk};
+ghost use Rattle.std.specs.Prelude.{◌≡◌, IfOk};
 ghost use Rattle.mc_model.specs.Server.{IsValid};
 ghost use Rattle.sei_code.specs.Kept.{empty_kept};
-ghost use Rattle.sei_fault.specs.Tree.{Runs};
 ghost use Rattle.sei_log.specs.declared.log.Change.{Change};
 ghost use Rattle.sei_pass.specs.Spaces.{pass_space};
 ghost use Rattle.sei_pass.specs.State.{new_pass};
+ghost use Rattle.sei_traverse.specs.Acts.{closes};
+ghost use Rattle.sei_traverse.specs.Work.{ActsAlone};
 ghost use Rattle.sei_traverse.specs.Workspaces.{IsWorkspace, Stays};
-ghost use Rattle.sei_traverse.specs.Acts.{acted, closes};
 
 use crate::turned::Want;
 use mc_model::Geometry;
@@ -109,7 +109,7 @@ impl Workspace {
 
     /// Closes the phase, and leads to `to` with this want.
     pub fn close<K: Core>(&mut self, phase: Phase, want: Want, to: Place, core: &mut K) -> Ending
-        ensures act { (words : List ℕ) → Runs K.gives (closes phase self.old words want to) core.old core.new (acted self.new words result) }
+        ensures act { ActsAlone K.gives (λ w words. closes phase w words want to) self.old core.old self.new core.new result }
         ensures stays { Stays self.old self.new }
         ensures place { self.new.place ≡ self.old.place }
     {

@@ -2,7 +2,7 @@ use Rattle.sei_traverse.proofs.PublicRuns.{run_within, run_on_way, run_isolated,
 use Rattle.sei_traverse.proofs.laws.runs_go_as_steps_go.Goals as goal
 
 pub returns-clause-within : goal.returns-clause-within
-returns-clause-within g c = λ told behavior input n x z t r begin is within. run_within g.K.Core.gives g.K.Core.counts told behavior input g.met.K.Core.lawful begin n x z t r is within
+returns-clause-within g c = λ told behavior input n x z t r is begin within. run_within g.K.Core.gives g.K.Core.counts told behavior input g.met.K.Core.lawful begin n x z t r is within
 
 pub returns-clause-on_way : goal.returns-clause-on_way
 returns-clause-on_way g c = λ told behavior input n x z t r e begin call_context tells f h lends way.

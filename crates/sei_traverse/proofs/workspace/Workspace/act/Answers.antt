@@ -1,4 +1,3 @@
-use Rattle.std.proofs.Common.{◌∙◌}
 use Rattle.sei_fault.specs.declared.place.Phase.TheVariants.{Guard, Take, First, Restore, Second, Compare, Verify, Enter, Give, Send, Done}
 use Rattle.sei_words.specs.LentBucket.{words_of, bucket_of}
 use Rattle.sei_traverse.specs.Given.{given_of}
@@ -24,7 +23,7 @@ returns-in-First-clause-act g c =
     let bucket = bucket_of (g.L.Lent.lent_bucket c.args.lent.now) in
     let words = words_of (g.L.Lent.lent_bucket c.args.lent.now) in
     let told = g.C.Clock.told c.args.clock.now in
-    timed_act g.K.Core.gives told c.args.self.now words First _ _ _ (g.H.Handler.behavior c.args.hands.now) c.args.input.now bucket c.args.space.now c.args.self.now.first.space c.requires.space c.in-First.is c.first.ensures.act
+    timed_act g.K.Core.gives told c.args.self.now words First _ _ _ (given_of (g.H.Handler.behavior c.args.hands.now) c.args.input.now c.args.space.now bucket) c.in-First.is c.pass.ensures.act
 
 pub returns-in-Restore-clause-act : goal.returns-in-Restore-clause-act
 returns-in-Restore-clause-act g c =
@@ -38,7 +37,7 @@ returns-in-Second-clause-act g c =
     let bucket = bucket_of (g.L.Lent.lent_bucket c.args.lent.now) in
     let words = words_of (g.L.Lent.lent_bucket c.args.lent.now) in
     let told = g.C.Clock.told c.args.clock.now in
-    timed_act g.K.Core.gives told c.args.self.now words Second _ _ _ (g.H.Handler.behavior c.args.hands.now) c.args.input.now bucket c.args.space.now c.args.self.now.second.space (c.requires.workspace.same ∙ c.requires.space) c.in-Second.is c.second.ensures.act
+    timed_act g.K.Core.gives told c.args.self.now words Second _ _ _ (given_of (g.H.Handler.behavior c.args.hands.now) c.args.input.now c.args.space.now bucket) c.in-Second.is c.pass-in-Second.ensures.act
 
 pub returns-in-Compare-clause-act : goal.returns-in-Compare-clause-act
 returns-in-Compare-clause-act g c =
@@ -59,25 +58,25 @@ returns-in-Enter-clause-act g c =
     let bucket = bucket_of (g.L.Lent.lent_bucket c.args.lent.now) in
     let words = words_of (g.L.Lent.lent_bucket c.args.lent.now) in
     let told = g.C.Clock.told c.args.clock.now in
-    plain_act g.K.Core.gives told c.args.self.now words Enter _ _ _ (given_of (g.H.Handler.behavior c.args.hands.now) c.args.input.now c.args.space.now bucket) c.in-Enter.is (λ now. c.enter.ensures.act words)
+    plain_act g.K.Core.gives told c.args.self.now words Enter _ _ _ (given_of (g.H.Handler.behavior c.args.hands.now) c.args.input.now c.args.space.now bucket) c.in-Enter.is (λ now. c.close_only.ensures.act words)
 
 pub returns-in-Give-clause-act : goal.returns-in-Give-clause-act
 returns-in-Give-clause-act g c =
     let bucket = bucket_of (g.L.Lent.lent_bucket c.args.lent.now) in
     let words = words_of (g.L.Lent.lent_bucket c.args.lent.now) in
     let told = g.C.Clock.told c.args.clock.now in
-    plain_act g.K.Core.gives told c.args.self.now words Give _ _ _ (given_of (g.H.Handler.behavior c.args.hands.now) c.args.input.now c.args.space.now bucket) c.in-Give.is (λ now. c.give.ensures.act words)
+    plain_act g.K.Core.gives told c.args.self.now words Give _ _ _ (given_of (g.H.Handler.behavior c.args.hands.now) c.args.input.now c.args.space.now bucket) c.in-Give.is (λ now. c.close_only-in-Give.ensures.act words)
 
 pub returns-in-Send-clause-act : goal.returns-in-Send-clause-act
 returns-in-Send-clause-act g c =
     let bucket = bucket_of (g.L.Lent.lent_bucket c.args.lent.now) in
     let words = words_of (g.L.Lent.lent_bucket c.args.lent.now) in
     let told = g.C.Clock.told c.args.clock.now in
-    plain_act g.K.Core.gives told c.args.self.now words Send _ _ _ (given_of (g.H.Handler.behavior c.args.hands.now) c.args.input.now c.args.space.now bucket) c.in-Send.is (λ now. c.send.ensures.act words)
+    plain_act g.K.Core.gives told c.args.self.now words Send _ _ _ (given_of (g.H.Handler.behavior c.args.hands.now) c.args.input.now c.args.space.now bucket) c.in-Send.is (λ now. c.close_only-in-Send.ensures.act words)
 
 pub returns-in-Done-clause-act : goal.returns-in-Done-clause-act
 returns-in-Done-clause-act g c =
     let bucket = bucket_of (g.L.Lent.lent_bucket c.args.lent.now) in
     let words = words_of (g.L.Lent.lent_bucket c.args.lent.now) in
     let told = g.C.Clock.told c.args.clock.now in
-    plain_act g.K.Core.gives told c.args.self.now words Done _ _ _ (given_of (g.H.Handler.behavior c.args.hands.now) c.args.input.now c.args.space.now bucket) c.in-Done.is (λ now. c.finish.ensures.act words)
+    plain_act g.K.Core.gives told c.args.self.now words Done _ _ _ (given_of (g.H.Handler.behavior c.args.hands.now) c.args.input.now c.args.space.now bucket) c.in-Done.is (λ now. c.close_only-in-Done.ensures.act words)
