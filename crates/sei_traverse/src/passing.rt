@@ -13,7 +13,7 @@ use crate::turned::Want;
 use crate::workspace::{Ending, Workspace};
 use sei_fault::{Core, Phase, Place};
 use sei_outside::Clock;
-use sei_pass::{PassStep, Slots, Which};
+use sei_pass::{Given, PassStep, Slots, Which};
 use sei_stmt::Handler;
 
 impl Workspace {
@@ -37,18 +37,18 @@ impl Workspace {
         ensures stays { Stays self.old self.new }
         ensures place { self.new.place ≡ self.old.place }
     {
-        match self.first.step_on(
-            Which::Making,
+        let given = Given {
+            which: Which::Making,
             hands,
             input,
-            &self.sealed,
-            lent,
-            &mut self.first_log,
-            &mut self.notes,
-            core,
+            sealed: &self.sealed,
             clock,
-            self.place.index,
-        ) {
+            index: self.place.index,
+        };
+        match self
+            .first
+            .step_on(given, lent, &mut self.first_log, &mut self.notes, core)
+        {
             PassStep::Next { index } => Ending::Leads(Place {
                 phase: Phase::First,
                 index,
@@ -86,18 +86,18 @@ impl Workspace {
         ensures stays { Stays self.old self.new }
         ensures place { self.new.place ≡ self.old.place }
     {
-        match self.second.step_on(
-            Which::Reading,
+        let given = Given {
+            which: Which::Reading,
             hands,
             input,
-            &self.sealed,
-            lent,
-            &mut self.second_log,
-            &mut self.notes,
-            core,
+            sealed: &self.sealed,
             clock,
-            self.place.index,
-        ) {
+            index: self.place.index,
+        };
+        match self
+            .second
+            .step_on(given, lent, &mut self.second_log, &mut self.notes, core)
+        {
             PassStep::Next { index } => Ending::Leads(Place {
                 phase: Phase::Second,
                 index,
