@@ -4,6 +4,8 @@ pub mod State
 pub mod Setting
 pub mod Frames
 pub mod Steps
+pub mod Work
+pub mod Given
 pub mod Arms
 pub mod Turns
 pub mod Loop

@@ -1,18 +1,25 @@
 -- What a loop over the steps of a pass does: whole steps that lead on in the pass, and a part of one more.
-use Rattle.std.specs.Prelude.{◌≡◌, ℕ, ◌+◌, ◌<◌, ◌^◌, ⊤, Option, Some, None, slice_get}
+use Rattle.std.specs.Prelude.{◌≡◌, ℕ, ◌+◌, ◌<◌, ◌^◌, ⊤, List, Option, Some, None, slice_get}
 use Rattle.sei_fault.specs.declared.place.Phase.{Phase}
 use Rattle.sei_fault.specs.declared.place.Place.{Place}
 use Rattle.sei_fault.specs.Chain.{Chain}
 use Rattle.sei_fault.specs.Question.{Question, Answer}
 use Rattle.sei_fault.specs.Question.Question.{Goes}
 use Rattle.sei_fault.specs.Tree.{Runs}
+use Rattle.sei_log.specs.declared.notes.Notes.{Notes}
 use Rattle.sei_stmt.specs.declared.stmt.Stmt.{Stmt}
+use Rattle.sei_stmt.specs.Handling.{Behavior}
 use Rattle.sei_stmt.specs.Machine.{Machine, Setting}
+use Rattle.sei_words.specs.Words.{BucketWords}
+use Rattle.sei_pass.specs.declared.frame.Frame.{Frame}
 use Rattle.sei_pass.specs.declared.loops.Asked.{Asked}
 use Rattle.sei_pass.specs.declared.loops.Asked.TheVariants as asked
 use Rattle.sei_pass.specs.declared.loops.Exit.{Exit}
 use Rattle.sei_pass.specs.declared.loops.Exit.TheVariants.{At, Halted, Bad, Struck, Alone}
+use Rattle.sei_pass.specs.declared.loops.Ran.{Ran}
+use Rattle.sei_pass.specs.State.{PassState}
 use Rattle.sei_pass.specs.Arms.{arm_tree}
+use Rattle.sei_pass.specs.Work.{Work, frame_machine, pass_machine}
 
 abbrev pub in_pass : Phase → ℕ → Place
 in_pass phase index = record { phase = phase; index = index }
@@ -79,3 +86,37 @@ HasIndexAfter Alone index = ⊤
 abbrev pub IfOut : Led → (Exit → Type 0) → Type 0
 IfOut (Led.On index) P = ⊤
 IfOut (Led.Out exit) P = P exit
+
+-- What the loop does, by what the code works on, whatever the notes and the rest of the setting are.
+
+-- the machine of a frame stands at this index
+abbrev pub frame_here : {L S : Type 0} → (L → Option BucketWords) → Work Frame L S → Notes → ℕ → Here S
+frame_here lent_bucket x notes index = record { machine = frame_machine lent_bucket x notes; index = index; core = x.core }
+
+-- the machine of a pass stands at this index
+abbrev pub pass_here : {L S : Type 0} → (L → Option BucketWords) → Work PassState L S → Notes → ℕ → Here S
+pass_here lent_bucket x notes index = record { machine = pass_machine lent_bucket x notes; index = index; core = x.core }
+
+-- the step of these statements at this index led there, where the budget is not spent
+abbrev pub FrameLeads : {L S : Type 0} → (S → (q : Question) → Answer q → S → Type 0) → (L → Option BucketWords) → List Stmt → Phase → ℕ → Led → Work Frame L S → Work Frame L S → Type 0
+FrameLeads gives lent_bucket statements phase index led x y =
+    (g : Setting) (notes : Notes) → g.statements ≡ statements → x.pass.made < g.budget →
+    LeadsOrLeaves gives g phase (frame_here lent_bucket x notes index) led (frame_machine lent_bucket y notes) y.core
+
+-- the loop ran so from this index on, with this budget
+abbrev pub FrameRuns : {L S : Type 0} → (S → (q : Question) → Answer q → S → Type 0) → (L → Option BucketWords) → List Stmt → ℕ → Phase → ℕ → Ran → Work Frame L S → Work Frame L S → Type 0
+FrameRuns gives lent_bucket statements budget phase from ran x y =
+    (g : Setting) (notes : Notes) → g.statements ≡ statements → g.budget ≡ budget →
+    RunsLoop gives g phase ran.before ran.index (frame_here lent_bucket x notes from) ran.exit (frame_machine lent_bucket y notes) y.core
+
+-- the step of a pass over the table of a handler at this index led there
+abbrev pub PassLeads : {L S : Type 0} → (S → (q : Question) → Answer q → S → Type 0) → (L → Option BucketWords) → Behavior → Phase → ℕ → Led → Work PassState L S → Work PassState L S → Type 0
+PassLeads gives lent_bucket h phase index led x y =
+    (g : Setting) (notes : Notes) → g.statements ≡ h.statements → g.budget ≡ x.pass.space.budget →
+    LeadsOrLeaves gives g phase (pass_here lent_bucket x notes index) led (pass_machine lent_bucket y notes) y.core
+
+-- the loop of a pass over the table of a handler ran so from this index on
+abbrev pub PassRuns : {L S : Type 0} → (S → (q : Question) → Answer q → S → Type 0) → (L → Option BucketWords) → Behavior → Phase → ℕ → Ran → Work PassState L S → Work PassState L S → Type 0
+PassRuns gives lent_bucket h phase from ran x y =
+    (g : Setting) (notes : Notes) → g.statements ≡ h.statements → g.budget ≡ x.pass.space.budget →
+    RunsLoop gives g phase ran.before ran.index (pass_here lent_bucket x notes from) ran.exit (pass_machine lent_bucket y notes) y.core

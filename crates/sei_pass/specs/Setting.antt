@@ -5,7 +5,8 @@ use Rattle.sei_code.specs.Coded.{read_of}
 use Rattle.sei_code.specs.declared.coded.Coded.{Coded}
 use Rattle.mc_model.specs.declared.geometry.Geometry.{Geometry}
 use Rattle.sei_words.specs.Free.{is_free}
-use Rattle.sei_stmt.specs.declared.stmt.Stmt.{Stmt}
+use Rattle.sei_words.specs.Words.{BucketWords}
+use Rattle.sei_words.specs.LentBucket.{bucket_of}
 use Rattle.sei_stmt.specs.Handling.{Behavior, Parsed}
 use Rattle.sei_stmt.specs.Machine.{Setting}
 use Rattle.sei_pass.specs.declared.given.Sealed.{Sealed}
@@ -35,8 +36,8 @@ abbrev pub free_of : Geometry → Option ℕ → List ℕ → ℕ → ℕ → Bo
 free_of g None words moment slot = false
 free_of g (Some bucket) words moment slot = is_free g words moment slot
 
--- a setting that says nothing. `bare`, `timed`, `slotted`, `calling` and `rendering` serve the clauses of the code: a call
--- looks at few parts of a setting, and its clause names those alone
+-- a setting that says nothing. `bare` and those from it serve the clauses of the code: a call looks at few parts of a setting,
+-- and its clause names those alone
 abbrev pub bare : Setting
 bare = record {
   reading = false;
@@ -57,12 +58,24 @@ abbrev pub timed : Which → ℕ → Setting
 timed which now = record bare { reading = is_reading which; now = now }
 
 -- what Alloc looks at
-abbrev pub slotted : Which → Geometry → Option ℕ → Setting
-slotted which g lent = record bare { reading = is_reading which; slots = g.slots; is_free = free_of g lent }
+abbrev pub slotted : Which → Geometry → Option BucketWords → Setting
+slotted which g lent = record bare { reading = is_reading which; slots = g.slots; is_free = free_of g (bucket_of lent) }
+
+-- in the first pass
+abbrev pub choosing : Geometry → Option BucketWords → Setting
+choosing g lent = slotted Making g lent
+
+-- in the second pass
+abbrev pub checking : Geometry → Option BucketWords → Setting
+checking g lent = slotted Reading g lent
 
 -- what Parse looks at
 abbrev pub calling : Bool → Option Parsed → Option ℕ → Setting
 calling intact parsed lent = record bare { intact = intact; parsed = parsed; lent = lent }
+
+-- the same, of what is sealed of an input
+abbrev pub parsing : Behavior → List ℕ → Sealed → Option ℕ → Setting
+parsing h input sealed lent = calling (is_intact sealed input) (sealed_call (h.parsed input) sealed.nth) lent
 
 -- what Render looks at
 abbrev pub rendering : ℕ → (List ℕ → Option (List ℕ)) → Setting

@@ -1,5 +1,5 @@
 -- What one step of a pass does.
-use Rattle.std.specs.Prelude.{◌≡◌, ℕ, suc, ◌^◌, ◌<◌, List, Option, Some, None, ⊤}
+use Rattle.std.specs.Prelude.{◌≡◌, ℕ, suc, ◌^◌, ◌<◌, List, Option, Some, None}
 use Rattle.sei_code.specs.Kept.{Kept}
 use Rattle.sei_fault.specs.Counts.{Counts}
 use Rattle.sei_fault.specs.Question.{Question, Answer}
@@ -35,11 +35,11 @@ abbrev pub IsAnswer : Option ℕ → ℕ → Type 0
 IsAnswer None now = now < 2 ^ 64
 IsAnswer (Some told) now = now ≡ told
 
--- a statement that asks the clock is given its answer
+-- a statement of the first pass that asks for the time is given the clock's answer, and each other one is given 0
 abbrev pub IsAsked : Which → Stmt → Option ℕ → ℕ → Type 0
 IsAsked Making (Now to) told now = IsAnswer told now
-IsAsked Making s told now = ⊤
-IsAsked Reading s told now = ⊤
+IsAsked Making s told now = now ≡ 0
+IsAsked Reading s told now = now ≡ 0
 
 -- a step from one machine to another, and a core's state from s to t: for some answer of the clock
 -- the machine does what the statement's tree says, and a pass that was on its way still is

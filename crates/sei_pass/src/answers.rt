@@ -1,14 +1,10 @@
 //! Statements whose answers the first pass notes, and the second goes by: the time, and a free slot.
-ghost use Rattle.std.specs.Prelude.{◌≡◌, ℕ, ◌+◌, ◌<◌, ◌^◌, List};
-ghost use Rattle.sei_code.specs.Kept.{Kept};
-ghost use Rattle.sei_fault.specs.Tree.{Runs};
-ghost use Rattle.sei_log.specs.declared.log.Change.{Change};
-ghost use Rattle.sei_log.specs.declared.notes.Notes.{Notes};
+ghost use Rattle.std.specs.Prelude.{◌≡◌, ◌+◌, ◌<◌, ◌^◌};
 ghost use Rattle.sei_stmt.specs.Slots.{is_admissible};
-ghost use Rattle.sei_stmt.specs.Statements.{now_tree, alloc_tree, noted_now, noted_slot};
-ghost use Rattle.sei_words.specs.LentBucket.{words_of, bucket_of, IsOf};
-ghost use Rattle.sei_pass.specs.Setting.{timed, slotted};
-ghost use Rattle.sei_pass.specs.Frames.{machine_at, after_at, Does};
+ghost use Rattle.sei_stmt.specs.Statements.{now_tree, alloc_tree, noted_now};
+ghost use Rattle.sei_words.specs.LentBucket.{words_of, IsOf};
+ghost use Rattle.sei_pass.specs.Setting.{timed, choosing, checking};
+ghost use Rattle.sei_pass.specs.Frames.{Does, Reads, Noting, NotingRead, noted_alloc};
 
 use crate::frame::{Frame, PassStep};
 use crate::given::Which;
@@ -22,7 +18,7 @@ use sei_log::Notes;
 /// and none is free.
 fn is_admissible<L: Slots>(lent: &L, g: &Geometry, moment: u64, slot: u64) -> bool
     requires { IsOf g.now (L.lent_bucket lent.now) }
-    ensures { result ≡ is_admissible (slotted Which.Reading g.now (bucket_of (L.lent_bucket lent.now))) (words_of (L.lent_bucket lent.now)) moment slot }
+    ensures { result ≡ is_admissible (checking g.now (L.lent_bucket lent.now)) (words_of (L.lent_bucket lent.now)) moment slot }
 {
     if slot < g.slots {
         lent.is_free(g, slot, moment)
@@ -44,9 +40,7 @@ impl Frame {
     ) -> PassStep
         requires to { to < 32 }
         requires index { index + 1 < 2 ^ 64 }
-        ensures { (words : List ℕ) (log : Kept Change) →
-            Runs K.gives (now_tree (timed which time) index (machine_at self.old words log notes.old) to) core.old core.new
-            (after_at self.new words log notes.new result) }
+        ensures { Noting K.gives (λ m. now_tree (timed which time) index m to) self.old notes.old self.new notes.new result core.old core.new }
     {
         match which {
             Which::Making => {
@@ -84,10 +78,9 @@ impl Frame {
         }
     }
 
-    /// The register gets a slot that is free at the moment that a register holds.
+    /// The register gets the lowest slot that is free at the moment that a register holds.
     pub fn alloc<L: Slots, K: Core>(
         &mut self,
-        which: Which,
         to: u8,
         moment: u8,
         lent: &L,
@@ -100,28 +93,22 @@ impl Frame {
         requires moment { moment < 32 }
         requires geometry { IsOf g.now (L.lent_bucket lent.now) }
         requires index { index + 1 < 2 ^ 64 }
-        ensures { (log : Kept Change) →
-            Runs K.gives (alloc_tree (slotted which g.now (bucket_of (L.lent_bucket lent.now))) index (machine_at self.old (words_of (L.lent_bucket lent.now)) log notes.old) to moment) core.old core.new
-            (after_at self.new (words_of (L.lent_bucket lent.now)) log notes.new result) }
+        ensures { NotingRead K.gives (L.lent_bucket lent.now) (λ m. alloc_tree (choosing g.now (L.lent_bucket lent.now)) index m to moment)
+            self.old notes.old self.new notes.new result core.old core.new }
     {
         let t = core.value(self.registers[moment as usize]);
-        match which {
-            Which::Making => {
-                let slot = lent.lowest_free(g, t);
-                notes.slot = Some(Coded::seal(slot));
-                let v = core.value(slot);
-                self.registers[to as usize] = core.written(v);
-                PassStep::Next { index: index + 1 }
-            }
-            Which::Reading => self.noted_slot(to, t, lent, g, notes.slot, index, core),
-        }
+        let slot = lent.lowest_free(g, t);
+        notes.slot = Some(Coded::seal(slot));
+        let v = core.value(slot);
+        self.registers[to as usize] = core.written(v);
+        PassStep::Next { index: index + 1 }
     }
 
-    /// The register gets the noted slot, where it may answer.
-    fn noted_slot<L: Slots, K: Core>(
+    /// The register gets the noted slot, if that may answer at the moment that a register holds.
+    pub fn noted_alloc<L: Slots, K: Core>(
         &mut self,
         to: u8,
-        moment: u64,
+        moment: u8,
         lent: &L,
         g: &Geometry,
         note: Option<Coded>,
@@ -129,19 +116,20 @@ impl Frame {
         core: &mut K,
     ) -> PassStep
         requires to { to < 32 }
+        requires moment { moment < 32 }
         requires geometry { IsOf g.now (L.lent_bucket lent.now) }
         requires index { index + 1 < 2 ^ 64 }
-        ensures { (log : Kept Change) (notes : Notes) →
-            Runs K.gives (noted_slot (slotted Which.Reading g.now (bucket_of (L.lent_bucket lent.now))) index (machine_at self.old (words_of (L.lent_bucket lent.now)) log notes) to moment note) core.old core.new
-            (after_at self.new (words_of (L.lent_bucket lent.now)) log notes result) }
+        ensures { Reads K.gives (L.lent_bucket lent.now) (λ m. noted_alloc (checking g.now (L.lent_bucket lent.now)) index m to moment note)
+            self.old self.new result core.old core.new }
     {
+        let t = core.value(self.registers[moment as usize]);
         let Some(note) = note else {
             return PassStep::Bad(AbortCause::Notes);
         };
         let Some(slot) = note.read() else {
             return PassStep::Bad(AbortCause::Code);
         };
-        if core.test(is_admissible(lent, g, moment, slot)) {
+        if core.test(is_admissible(lent, g, t, slot)) {
             let v = core.value(slot);
             self.registers[to as usize] = core.written(v);
             return PassStep::Next { index: index + 1 };

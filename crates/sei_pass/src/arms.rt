@@ -3,19 +3,17 @@
 ghost use Rattle.std.specs.Prelude.{◌≡◌, ◌+◌, ◌<◌, ◌^◌};
 ghost use Rattle.sei_code.specs.Kept.{Kept};
 ghost use Rattle.sei_fault.specs.Question.Question.{Often};
-ghost use Rattle.sei_fault.specs.Tree.{Runs};
-ghost use Rattle.sei_fault.specs.declared.place.Act.TheVariants.{Plain, Load, Store, Halt};
+ghost use Rattle.sei_fault.specs.declared.place.Act.TheVariants.{Plain, Halt};
 ghost use Rattle.sei_log.specs.declared.log.Change.{Change};
-ghost use Rattle.sei_log.specs.declared.notes.Notes.{Notes};
-ghost use Rattle.sei_stmt.specs.Machine.{Setting, ends};
+ghost use Rattle.sei_stmt.specs.Machine.{ends};
 ghost use Rattle.sei_stmt.specs.Machine.Outcome.{Next, Halted};
-ghost use Rattle.sei_stmt.specs.Statements.{const_tree, move_tree, add_tree, sub_tree, input_tree, load_tree, store_tree, emit_tree, equal_tree, less_tree};
+ghost use Rattle.sei_stmt.specs.Statements.{const_tree, move_tree, add_tree, sub_tree, input_tree, emit_tree, equal_tree, less_tree};
 ghost use Rattle.sei_stmt.specs.Table.{HasRegisters};
-ghost use Rattle.sei_words.specs.LentBucket.{words_of, place_of};
-ghost use Rattle.sei_pass.specs.Acts.{act_of};
-ghost use Rattle.sei_pass.specs.Arms.{asked_of, site, arm_tree};
-ghost use Rattle.sei_pass.specs.Frames.{machine_at, outcome_of};
-ghost use Rattle.sei_pass.specs.Turns.{HasTarget, once_tree, arm_after, Turns};
+ghost use Rattle.sei_words.specs.LentBucket.{place_of};
+ghost use Rattle.sei_pass.specs.Arms.{asked_of, site};
+ghost use Rattle.sei_pass.specs.Frames.{outcome_of};
+ghost use Rattle.sei_pass.specs.Turns.{HasTarget, Turns, TurnsWork};
+ghost use Rattle.sei_pass.specs.Work.{work};
 
 use crate::frame::{Frame, PassStep};
 use crate::loops::Asked;
@@ -186,11 +184,8 @@ impl Frame {
         requires address { address < 32 }
         requires index { index + 1 < 2 ^ 64 }
         requires made { self.old.made + 1 < 2 ^ 64 }
-        ensures { (log : Kept Change) (notes : Notes) →
-            Runs K.gives
-            (once_tree phase index (act_of self.old.registers (Stmt.Load to address)) (λ m. load_tree index m to address)
-            (machine_at self.old (words_of (L.lent_bucket lent.now)) log notes)) core.old core.new
-            (arm_after self.new (words_of (L.lent_bucket lent.now)) log notes result) }
+        ensures { (log : Kept Change) → TurnsWork K.gives L.lent_bucket phase index (Stmt.Load to address)
+            (work self.old lent.now log core.old) (work self.new lent.now log core.new) result }
     {
         let act = Act::Load(self.registers[address as usize]);
         match often(core, phase, index, act) {
@@ -217,11 +212,8 @@ impl Frame {
         requires from { from < 32 }
         requires index { index + 1 < 2 ^ 64 }
         requires made { self.old.made + 1 < 2 ^ 64 }
-        ensures tree { (notes : Notes) →
-            Runs K.gives
-            (once_tree phase index (act_of self.old.registers (Stmt.Store address from)) (λ m. store_tree index m address from)
-            (machine_at self.old (words_of (L.lent_bucket lent.old)) log.old notes)) core.old core.new
-            (arm_after self.new (words_of (L.lent_bucket lent.new)) log.new notes result) }
+        ensures tree { TurnsWork K.gives L.lent_bucket phase index (Stmt.Store address from)
+            (work self.old lent.old log.old core.old) (work self.new lent.new log.new core.new) result }
         ensures lent { place_of (L.lent_bucket lent.new) ≡ place_of (L.lent_bucket lent.old) }
     {
         let act = Act::Store(self.registers[address as usize]);
@@ -344,9 +336,8 @@ impl Frame {
         requires jumps { HasTarget index statement }
         requires index { index + 1 < 2 ^ 64 }
         requires made { self.old.made + 1 < 2 ^ 64 }
-        ensures tree { (g : Setting) (notes : Notes) →
-            Runs K.gives (arm_tree g phase index (machine_at self.old (words_of (L.lent_bucket lent.old)) log.old notes) statement) core.old core.new
-            (arm_after self.new (words_of (L.lent_bucket lent.new)) log.new notes result) }
+        ensures tree { TurnsWork K.gives L.lent_bucket phase index statement
+            (work self.old lent.old log.old core.old) (work self.new lent.new log.new core.new) result }
         ensures lent { place_of (L.lent_bucket lent.new) ≡ place_of (L.lent_bucket lent.old) }
     {
         match statement {

@@ -1,6 +1,6 @@
 //! The registers and lists that statements work on.
-ghost use Rattle.std.specs.Prelude.{◌≡◌, ℕ, IfOk, None, replicate};
-ghost use Rattle.sei_code.specs.Kept.{empty_kept, emptied};
+ghost use Rattle.std.specs.Prelude.{◌≡◌, IfOk};
+ghost use Rattle.sei_pass.specs.Frames.{new_frame, cleared};
 
 use crate::spaces::PassSpace;
 use sei_code::{Buffer, Memory, WordList};
@@ -40,14 +40,7 @@ pub struct Frame {
 impl Frame {
     /// Before the first statement, with the rooms of this space.
     pub fn new(alloc: Global, space: &PassSpace) -> Result<Frame, Memory>
-        ensures { IfOk result (λ frame. frame ≡ record {
-          registers = replicate 32 0;
-          input = empty_kept ℕ space.now.input;
-          output = empty_kept ℕ space.now.output;
-          bytes = empty_kept ℕ space.now.bytes;
-          code = None;
-          made = 0;
-        }) }
+        ensures { IfOk result (λ frame. frame ≡ new_frame space.now) }
     {
         Ok(Frame {
             registers: [0; REGISTERS],
@@ -61,14 +54,7 @@ impl Frame {
 
     /// Makes it as it was before the first statement.
     pub fn clear(&mut self)
-        ensures { self.new ≡ record {
-          registers = replicate 32 0;
-          input = emptied self.old.input;
-          output = emptied self.old.output;
-          bytes = emptied self.old.bytes;
-          code = None;
-          made = 0;
-        } }
+        ensures { self.new ≡ cleared self.old }
     {
         self.registers = [0; REGISTERS];
         self.input.clear();

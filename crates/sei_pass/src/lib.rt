@@ -19,7 +19,7 @@ mod step;
 mod tests;
 
 pub use frame::PassStep;
-pub use given::{Sealed, Which};
+pub use given::{Given, Sealed, Which};
 pub use loops::{Exit, FirstStep, Ran, SecondStep};
 pub use pass::Pass;
 pub use slots::Slots;

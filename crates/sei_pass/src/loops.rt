@@ -1,10 +1,8 @@
 //! Many steps of a pass.
 ghost use Rattle.std.specs.Prelude.{◌≡◌, ◌+◌, ◌<◌, ◌^◌};
-ghost use Rattle.sei_log.specs.declared.notes.Notes.{Notes};
-ghost use Rattle.sei_stmt.specs.Machine.{Setting};
-ghost use Rattle.sei_words.specs.LentBucket.{words_of, place_of};
-ghost use Rattle.sei_pass.specs.Frames.{machine_at};
-ghost use Rattle.sei_pass.specs.Loop.{LeadsOrLeaves, RunsLoop, HasIndexAfter, IfOut, led_to};
+ghost use Rattle.sei_words.specs.LentBucket.{place_of};
+ghost use Rattle.sei_pass.specs.Loop.{FrameLeads, FrameRuns, HasIndexAfter, IfOut, led_to};
+ghost use Rattle.sei_pass.specs.Work.{work};
 
 use crate::frame::Frame;
 use sei_fault::{AbortCause, Act, Core, Phase, Place, Times};
@@ -78,10 +76,8 @@ impl Frame {
         exit: &mut Exit,
     ) -> Option<u64>
         requires made { self.old.made + 1 < 2 ^ 64 }
-        ensures led { (g : Setting) (notes : Notes) → g.statements ≡ table.now → self.old.made < g.budget →
-            LeadsOrLeaves K.gives g phase
-            (record { machine = machine_at self.old (words_of (L.lent_bucket lent.old)) log.old notes; index = index; core = core.old })
-            (led_to result exit.new) (machine_at self.new (words_of (L.lent_bucket lent.new)) log.new notes) core.new }
+        ensures led { FrameLeads K.gives L.lent_bucket table.now phase index (led_to result exit.new)
+            (work self.old lent.old log.old core.old) (work self.new lent.new log.new core.new) }
         ensures after { IfOut (led_to result exit.new) (λ exit. HasIndexAfter exit index) }
         ensures lent { place_of (L.lent_bucket lent.new) ≡ place_of (L.lent_bucket lent.old) }
     {
@@ -132,10 +128,8 @@ impl Frame {
         core: &mut K,
         from: u64,
     ) -> Ran
-        ensures ran { (g : Setting) (notes : Notes) → g.statements ≡ table.now → g.budget ≡ budget →
-            RunsLoop K.gives g phase result.before result.index
-            (record { machine = machine_at self.old (words_of (L.lent_bucket lent.old)) log.old notes; index = from; core = core.old })
-            result.exit (machine_at self.new (words_of (L.lent_bucket lent.new)) log.new notes) core.new }
+        ensures ran { FrameRuns K.gives L.lent_bucket table.now budget phase from result
+            (work self.old lent.old log.old core.old) (work self.new lent.new log.new core.new) }
         ensures after { HasIndexAfter result.exit result.index }
         ensures lent { place_of (L.lent_bucket lent.new) ≡ place_of (L.lent_bucket lent.old) }
     {

@@ -1,12 +1,9 @@
 //! Statements that read and write the words of the bucket.
-ghost use Rattle.std.specs.Prelude.{◌≡◌, ℕ, ◌+◌, ◌<◌, ◌^◌, List};
-ghost use Rattle.sei_code.specs.Kept.{Kept};
-ghost use Rattle.sei_fault.specs.Tree.{Runs};
-ghost use Rattle.sei_log.specs.declared.log.Change.{Change};
-ghost use Rattle.sei_log.specs.declared.notes.Notes.{Notes};
+ghost use Rattle.std.specs.Prelude.{◌≡◌, ◌+◌, ◌<◌, ◌^◌};
 ghost use Rattle.sei_stmt.specs.Statements.{load_tree, store_tree};
-ghost use Rattle.sei_words.specs.LentBucket.{words_of, place_of};
-ghost use Rattle.sei_pass.specs.Frames.{machine_at, after_at};
+ghost use Rattle.sei_words.specs.LentBucket.{place_of};
+ghost use Rattle.sei_pass.specs.Frames.{Reads};
+ghost use Rattle.sei_pass.specs.Work.{work, Writes};
 
 use crate::frame::{Frame, PassStep};
 use sei_fault::{AbortCause, Core};
@@ -27,9 +24,7 @@ impl Frame {
         requires to { to < 32 }
         requires address { address < 32 }
         requires index { index + 1 < 2 ^ 64 }
-        ensures { (log : Kept Change) (notes : Notes) →
-            Runs K.gives (load_tree index (machine_at self.old (words_of (L.lent_bucket lent.now)) log notes) to address) core.old core.new
-            (after_at self.new (words_of (L.lent_bucket lent.now)) log notes result) }
+        ensures { Reads K.gives (L.lent_bucket lent.now) (λ m. load_tree index m to address) self.old self.new result core.old core.new }
     {
         let a = core.value(self.registers[address as usize]);
         match lent.get(a) {
@@ -57,9 +52,8 @@ impl Frame {
         requires address { address < 32 }
         requires from { from < 32 }
         requires index { index + 1 < 2 ^ 64 }
-        ensures tree { (notes : Notes) →
-            Runs K.gives (store_tree index (machine_at self.old (words_of (L.lent_bucket lent.old)) log.old notes) address from) core.old core.new
-            (after_at self.new (words_of (L.lent_bucket lent.new)) log.new notes result) }
+        ensures tree { Writes K.gives L.lent_bucket (λ m. store_tree index m address from)
+            (work self.old lent.old log.old core.old) (work self.new lent.new log.new core.new) result }
         ensures lent { place_of (L.lent_bucket lent.new) ≡ place_of (L.lent_bucket lent.old) }
     {
         let a = core.value(self.registers[address as usize]);

@@ -1,12 +1,9 @@
 //! Statements that read the input and make the output.
-ghost use Rattle.std.specs.Prelude.{◌≡◌, ℕ, ◌+◌, ◌<◌, ◌≤◌, ◌^◌, List, [], length, Option, is_some, true};
-ghost use Rattle.sei_code.specs.Kept.{Kept, emptied};
-ghost use Rattle.sei_fault.specs.Tree.{Runs};
+ghost use Rattle.std.specs.Prelude.{◌≡◌, ◌+◌, ◌<◌, ◌≤◌, ◌^◌, length, Option, is_some, true};
 ghost use Rattle.sei_stmt.specs.Handling.{Parsed, parsed_words, parsed_bucket, refilled};
-ghost use Rattle.sei_stmt.specs.Machine.{Machine, Setting, After};
-ghost use Rattle.sei_stmt.specs.Statements.{emit_tree, parse_tree, parse_call, parse_first, is_lent, render_tree, render_bytes, render_words, store_bytes};
-ghost use Rattle.sei_pass.specs.Setting.{is_intact, sealed_call, calling, rendering};
-ghost use Rattle.sei_pass.specs.Frames.{Does};
+ghost use Rattle.sei_stmt.specs.Statements.{emit_tree, parse_tree, parse_call, parse_first, is_lent, render_tree, store_bytes};
+ghost use Rattle.sei_pass.specs.Setting.{sealed_call, calling, parsing, rendering};
+ghost use Rattle.sei_pass.specs.Frames.{Does, ReadsWords};
 
 use crate::frame::{Frame, PassStep};
 use crate::given::Sealed;
@@ -50,9 +47,7 @@ fn is_lent(lent: Option<u64>, bucket: Option<u64>) -> bool
 /// Reads each word through `core` into `into`.
 fn read_words<K: Core>(words: &WordList, into: &mut WordList, core: &mut K)
     requires { length words.now.items ≤ into.old.room }
-    ensures read { (g : Setting) (i : ℕ) (m : Machine) (t : _) (x : After) →
-        Runs K.gives (render_bytes g i m (g.rendered into.new.items)) core.new t x →
-        Runs K.gives (render_words g i m [] words.now.items) core.old t x }
+    ensures read { ReadsWords K.gives words.now.items into.new.items core.old core.new }
     ensures room { into.new.room ≡ into.old.room }
 {
     into.clear();
@@ -90,7 +85,7 @@ impl Frame {
     ) -> PassStep
         requires room { length (parsed_words (sealed_call ((H.behavior hands.now).parsed input.now) sealed.now.nth)) ≤ self.old.input.room }
         requires index { index + 1 < 2 ^ 64 }
-        ensures { Does K.gives (λ m. parse_tree (calling (is_intact sealed.now input.now) (sealed_call ((H.behavior hands.now).parsed input.now) sealed.now.nth) lent) index m)
+        ensures { Does K.gives (λ m. parse_tree (parsing (H.behavior hands.now) input.now sealed.now lent) index m)
             self.old self.new result core.old core.new }
     {
         if core.test(message_code(sealed.number, input) == sealed.code) {

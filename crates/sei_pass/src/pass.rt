@@ -1,22 +1,20 @@
 //! A pass.
-ghost use Rattle.std.specs.Prelude.{◌≡◌, ℕ, ◌+◌, ◌≤◌, ◌<◌, ◌^◌, IfOk, IfSome, length, Option, slice_get};
+ghost use Rattle.std.specs.Prelude.{◌≡◌, ◌+◌, ◌≤◌, ◌<◌, ◌^◌, IfOk, IfSome, length, slice_get};
 ghost use Rattle.std.specs.Option.{option_map};
 ghost use Rattle.mc_model.specs.Server.{IsValid};
 ghost use Rattle.sei_stmt.specs.Handling.{parsed_words};
-ghost use Rattle.sei_log.specs.declared.notes.Notes.{Notes};
-ghost use Rattle.sei_stmt.specs.Machine.{Setting};
+ghost use Rattle.sei_words.specs.LentBucket.{place_of, IsOf};
+ghost use Rattle.sei_words.specs.Exits.{lent_at, lent_left};
 ghost use Rattle.sei_pass.specs.Acts.{act_of};
-ghost use Rattle.sei_pass.specs.Loop.{LeadsOrLeaves, RunsLoop, HasIndexAfter, IfOut, led_to};
+ghost use Rattle.sei_pass.specs.Given.{StepsOn, StepsBy, setting_by, words_given};
+ghost use Rattle.sei_pass.specs.Loop.{PassLeads, PassRuns, HasIndexAfter, IfOut, led_to};
+ghost use Rattle.sei_pass.specs.Setting.{sealed_call};
 ghost use Rattle.sei_pass.specs.Spaces.{pass_space};
 ghost use Rattle.sei_pass.specs.State.{IsPass, new_pass};
-ghost use Rattle.sei_words.specs.LentBucket.{words_of, bucket_of, place_of, IsOf};
-ghost use Rattle.sei_words.specs.Exits.{lent_at, lent_left};
-ghost use Rattle.sei_pass.specs.Setting.{sealed_call, setting_of};
-ghost use Rattle.sei_pass.specs.Frames.{outcome_of};
-ghost use Rattle.sei_pass.specs.Steps.{machine_of, Stepped};
+ghost use Rattle.sei_pass.specs.Work.{work};
 
 use crate::frame::{Frame, PassStep};
-use crate::given::{Sealed, Which};
+use crate::given::{Given, Sealed, Which};
 use crate::loops::{Exit, Ran};
 use crate::slots::Slots;
 use crate::spaces::PassSpace;
@@ -139,32 +137,26 @@ impl Pass {
         requires room { length (parsed_words (sealed_call ((H.behavior hands.now).parsed input.now) sealed.now.nth)) ≤ self.old.input.room }
         // What is lent is of the pass's geometry.
         requires lent { IsOf self.old.space.geometry (lent_at lent) }
-        ensures stepped { Stepped K.gives K.counts (C.told clock.now)
-            (setting_of which (H.behavior hands.now) input.now sealed.now (bucket_of (lent_at lent.entry)) self.old.space)
-            index (machine_of self.old (words_of (lent_at lent.entry)) log.old notes.old)
-            (machine_of self.new (words_of (lent_left lent.exit)) log.new notes.new) (outcome_of result) core.old core.new }
+        ensures stepped { StepsBy K.gives K.counts (C.told clock.now) (setting_by which (H.behavior hands.now) input.now sealed.now) index
+            (work self.old (lent_at lent.entry) log.old core.old) notes.old
+            (work self.new (lent_left lent.exit) log.new core.new) notes.new result }
         ensures lent { place_of (lent_left lent.exit) ≡ place_of (lent_at lent.entry) }
         ensures space { self.new.space ≡ self.old.space }
         ensures pass { IsPass self.new }
         ensures log { log.new.room ≡ log.old.room }
         ensures log_fits { length log.old.items ≤ log.old.room → length log.new.items ≤ log.new.room }
     {
+        let given = Given {
+            which,
+            hands,
+            input,
+            sealed,
+            clock,
+            index,
+        };
         match lent {
-            None => self.step_on(
-                which,
-                hands,
-                input,
-                sealed,
-                &mut NoBucket,
-                log,
-                notes,
-                core,
-                clock,
-                index,
-            ),
-            Some(words) => self.step_on(
-                which, hands, input, sealed, words, log, notes, core, clock, index,
-            ),
+            None => self.step_on(given, &mut NoBucket, log, notes, core),
+            Some(words) => self.step_on(given, words, log, notes, core),
         }
     }
 
@@ -172,23 +164,16 @@ impl Pass {
     #[inline(always)]
     pub fn step_on<H: Handler, L: Slots, K: Core, C: Clock>(
         &mut self,
-        which: Which,
-        hands: &H,
-        input: &[u8],
-        sealed: &Sealed,
+        given: Given<'_, H, C>,
         lent: &mut L,
         log: &mut WriteLog,
         notes: &mut Notes,
         core: &mut K,
-        clock: &C,
-        index: u64,
     ) -> PassStep
-        requires room { length (parsed_words (sealed_call ((H.behavior hands.now).parsed input.now) sealed.now.nth)) ≤ self.old.input.room }
+        requires room { length (words_given H.behavior given) ≤ self.old.input.room }
         requires lent { IsOf self.old.space.geometry (L.lent_bucket lent.old) }
-        ensures stepped { Stepped K.gives K.counts (C.told clock.now)
-            (setting_of which (H.behavior hands.now) input.now sealed.now (bucket_of (L.lent_bucket lent.old)) self.old.space)
-            index (machine_of self.old (words_of (L.lent_bucket lent.old)) log.old notes.old)
-            (machine_of self.new (words_of (L.lent_bucket lent.new)) log.new notes.new) (outcome_of result) core.old core.new }
+        ensures stepped { StepsOn K.gives K.counts L.lent_bucket H.behavior C.told given.entry
+            (work self.old lent.old log.old core.old) notes.old (work self.new lent.new log.new core.new) notes.new result }
         ensures lent { place_of (L.lent_bucket lent.new) ≡ place_of (L.lent_bucket lent.old) }
         ensures space { self.new.space ≡ self.old.space }
         ensures pass { IsPass self.new }
@@ -196,18 +181,13 @@ impl Pass {
         ensures log_fits { length log.old.items ≤ log.old.room → length log.new.items ≤ log.new.room }
     {
         self.frame.step(
-            which,
-            hands,
-            input,
-            sealed,
-            lent,
+            given,
             &self.space,
+            lent,
             log,
             notes,
             &mut self.scratch,
             core,
-            clock,
-            index,
         )
     }
 
@@ -225,10 +205,8 @@ impl Pass {
         index: u64,
         exit: &mut Exit,
     ) -> Option<u64>
-        ensures led { (g : Setting) (notes : Notes) → g.statements ≡ (H.behavior hands.now).statements → g.budget ≡ self.old.space.budget →
-            LeadsOrLeaves K.gives g phase
-            (record { machine = machine_of self.old (words_of (L.lent_bucket lent.old)) log.old notes; index = index; core = core.old })
-            (led_to result exit.new) (machine_of self.new (words_of (L.lent_bucket lent.new)) log.new notes) core.new }
+        ensures led { PassLeads K.gives L.lent_bucket (H.behavior hands.now) phase index (led_to result exit.new)
+            (work self.old lent.old log.old core.old) (work self.new lent.new log.new core.new) }
         ensures after { IfOut (led_to result exit.new) (λ exit. HasIndexAfter exit index) }
         ensures lent { place_of (L.lent_bucket lent.new) ≡ place_of (L.lent_bucket lent.old) }
         ensures space { self.new.space ≡ self.old.space }
@@ -258,10 +236,8 @@ impl Pass {
         core: &mut K,
         from: u64,
     ) -> Ran
-        ensures ran { (g : Setting) (notes : Notes) → g.statements ≡ (H.behavior hands.now).statements → g.budget ≡ self.old.space.budget →
-            RunsLoop K.gives g phase result.before result.index
-            (record { machine = machine_of self.old (words_of (L.lent_bucket lent.old)) log.old notes; index = from; core = core.old })
-            result.exit (machine_of self.new (words_of (L.lent_bucket lent.new)) log.new notes) core.new }
+        ensures ran { PassRuns K.gives L.lent_bucket (H.behavior hands.now) phase from result
+            (work self.old lent.old log.old core.old) (work self.new lent.new log.new core.new) }
         ensures after { HasIndexAfter result.exit result.index }
         ensures lent { place_of (L.lent_bucket lent.new) ≡ place_of (L.lent_bucket lent.old) }
         ensures space { self.new.space ≡ self.old.space }

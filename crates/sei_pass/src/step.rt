@@ -1,16 +1,14 @@
 //! One statement, whichever it is.
-ghost use Rattle.std.specs.Prelude.{◌≡◌, ℕ, ◌+◌, ◌<◌, ◌≤◌, ◌^◌, length};
-ghost use Rattle.sei_fault.specs.Tree.{Runs};
-ghost use Rattle.sei_stmt.specs.Handling.{parsed_words};
-ghost use Rattle.sei_stmt.specs.Statements.{statement_tree};
+ghost use Rattle.std.specs.Prelude.{◌≡◌, ◌+◌, ◌<◌, ◌≤◌, ◌^◌, length};
 ghost use Rattle.sei_stmt.specs.Table.{HasRegisters, JumpsInside, HasNext};
-ghost use Rattle.sei_words.specs.LentBucket.{words_of, bucket_of, place_of, IsOf};
-ghost use Rattle.sei_pass.specs.Setting.{sealed_call, setting_of};
-ghost use Rattle.sei_pass.specs.Frames.{machine_at, after_at, outcome_of, KeepsRooms};
-ghost use Rattle.sei_pass.specs.Steps.{IsAsked, Stepped};
+ghost use Rattle.sei_words.specs.LentBucket.{place_of, IsOf};
+ghost use Rattle.sei_pass.specs.Frames.{KeepsRooms};
+ghost use Rattle.sei_pass.specs.Given.{Steps, Makes, words_given};
+ghost use Rattle.sei_pass.specs.Steps.{IsAsked};
+ghost use Rattle.sei_pass.specs.Work.{work};
 
 use crate::frame::{Frame, PassStep};
-use crate::given::{Sealed, Which};
+use crate::given::{Given, Turn, Which};
 use crate::slots::Slots;
 use crate::spaces::PassSpace;
 use sei_code::WordList;
@@ -20,7 +18,7 @@ use sei_outside::Clock;
 use sei_stmt::{Handler, Stmt, target};
 
 /// The clock's answer, for a statement of the first pass that asks for it. It is 0 for each other
-/// statement, which does not look at it.
+/// statement, which does not look at it: a second pass asks no clock.
 pub fn time<C: Clock>(which: Which, statement: Stmt, clock: &C) -> u64
     ensures { IsAsked which statement (C.told clock.now) result }
 {
@@ -34,34 +32,27 @@ pub fn time<C: Clock>(which: Which, statement: Stmt, clock: &C) -> u64
 }
 
 impl Frame {
-    /// Makes the statement at `index`, where there is one and the budget is not spent.
+    /// Makes the statement at the given index, where there is one and the budget is not spent.
     #[inline(always)]
     pub fn step<H: Handler, L: Slots, K: Core, C: Clock>(
         &mut self,
-        which: Which,
-        hands: &H,
-        input: &[u8],
-        sealed: &Sealed,
-        lent: &mut L,
+        given: Given<'_, H, C>,
         space: &PassSpace,
+        lent: &mut L,
         log: &mut WriteLog,
         notes: &mut Notes,
         scratch: &mut WordList,
         core: &mut K,
-        clock: &C,
-        index: u64,
     ) -> PassStep
         requires geometry { IsOf space.now.geometry (L.lent_bucket lent.old) }
-        requires room { length (parsed_words (sealed_call ((H.behavior hands.now).parsed input.now) sealed.now.nth)) ≤ self.old.input.room }
+        requires room { length (words_given H.behavior given) ≤ self.old.input.room }
         requires fits { length self.old.output.items ≤ self.old.output.room }
         requires bytes_fit { length self.old.bytes.items ≤ self.old.bytes.room }
         requires input_fits { length self.old.input.items ≤ self.old.input.room }
         requires scratch { scratch.old.room ≡ self.old.output.room }
         requires made { self.old.made ≤ space.now.budget }
-        ensures stepped { Stepped K.gives K.counts (C.told clock.now)
-            (setting_of which (H.behavior hands.now) input.now sealed.now (bucket_of (L.lent_bucket lent.old)) space.now)
-            index (machine_at self.old (words_of (L.lent_bucket lent.old)) log.old notes.old)
-            (machine_at self.new (words_of (L.lent_bucket lent.new)) log.new notes.new) (outcome_of result) core.old core.new }
+        ensures stepped { Steps K.gives L.lent_bucket H.behavior C.told given.entry space.now
+            (work self.old lent.old log.old core.old) notes.old (work self.new lent.new log.new core.new) notes.new result }
         ensures lent { place_of (L.lent_bucket lent.new) ≡ place_of (L.lent_bucket lent.old) }
         ensures rooms { KeepsRooms self.old self.new }
         ensures made { self.new.made ≤ space.now.budget }
@@ -69,16 +60,18 @@ impl Frame {
         ensures log_fits { length log.old.items ≤ log.old.room → length log.new.items ≤ log.new.room }
         ensures scratch { scratch.new.room ≡ scratch.old.room }
     {
-        match hands.table().get(index) {
-            None => PassStep::Bad(AbortCause::Table { index }),
+        match given.hands.table().get(given.index) {
+            None => PassStep::Bad(AbortCause::Table { index: given.index }),
             Some(statement) => {
                 if self.made < space.budget {
                     self.made += 1;
-                    let time = time(which, statement, clock);
-                    self.make(
-                        statement, which, hands, input, sealed, lent, space, log, notes, time,
-                        scratch, index, core,
-                    )
+                    let time = time(given.which, statement, given.clock);
+                    let turn = Turn {
+                        statement,
+                        time,
+                        space,
+                    };
+                    self.make(turn, given, lent, log, notes, scratch, core)
                 } else {
                     PassStep::Bad(AbortCause::Budget)
                 }
@@ -86,38 +79,32 @@ impl Frame {
         }
     }
 
-    /// Makes one statement.
+    /// Makes the statement whose turn it is.
     #[inline(always)]
-    fn make<H: Handler, L: Slots, K: Core>(
+    fn make<H: Handler, L: Slots, K: Core, C: Clock>(
         &mut self,
-        statement: Stmt,
-        which: Which,
-        hands: &H,
-        input: &[u8],
-        sealed: &Sealed,
+        turn: Turn<'_>,
+        given: Given<'_, H, C>,
         lent: &mut L,
-        space: &PassSpace,
         log: &mut WriteLog,
         notes: &mut Notes,
-        time: u64,
         scratch: &mut WordList,
-        index: u64,
         core: &mut K,
     ) -> PassStep
-        requires registers { HasRegisters statement }
-        requires jumps { JumpsInside (length (H.behavior hands.now).statements) index statement }
-        requires small { length (H.behavior hands.now).statements < 2 ^ 63 }
-        requires here { index < length (H.behavior hands.now).statements }
-        requires geometry { IsOf space.now.geometry (L.lent_bucket lent.old) }
-        requires room { length (parsed_words (sealed_call ((H.behavior hands.now).parsed input.now) sealed.now.nth)) ≤ self.old.input.room }
+        requires registers { HasRegisters turn.statement }
+        requires jumps { JumpsInside (length (H.behavior given.hands.now).statements) given.index turn.statement }
+        requires small { length (H.behavior given.hands.now).statements < 2 ^ 63 }
+        requires here { given.index < length (H.behavior given.hands.now).statements }
+        requires geometry { IsOf turn.space.now.geometry (L.lent_bucket lent.old) }
+        requires room { length (words_given H.behavior given) ≤ self.old.input.room }
         requires scratch { length self.old.output.items ≤ scratch.old.room }
-        ensures tree { Runs K.gives (statement_tree (setting_of which (H.behavior hands.now) input.now sealed.now (bucket_of (L.lent_bucket lent.old)) space.now time)
-            index (machine_at self.old (words_of (L.lent_bucket lent.old)) log.old notes.old) statement)
-            core.old core.new (after_at self.new (words_of (L.lent_bucket lent.new)) log.new notes.new result) }
+        ensures tree { Makes K.gives L.lent_bucket H.behavior given.entry turn.entry
+            (work self.old lent.old log.old core.old) notes.old (work self.new lent.new log.new core.new) notes.new result }
         ensures lent { place_of (L.lent_bucket lent.new) ≡ place_of (L.lent_bucket lent.old) }
         ensures scratch { scratch.new.room ≡ scratch.old.room }
     {
-        match statement {
+        let index = given.index;
+        match turn.statement {
             Stmt::Const { to, number } => self.constant(to, number, index, core),
             Stmt::Move { to, from } => self.copy(to, from, index, core),
             Stmt::Add { to, left, right } => self.add(to, left, right, index, core),
@@ -139,19 +126,25 @@ impl Frame {
                 right,
                 offset,
             } => self.jump_less(left, right, target(index, offset), index, core),
-            Stmt::Now { to } => self.now(which, to, time, notes, index, core),
-            Stmt::Alloc { to, moment } => self.alloc(
-                which,
-                to,
-                moment,
-                lent,
-                &space.geometry,
-                notes,
+            Stmt::Now { to } => self.now(given.which, to, turn.time, notes, index, core),
+            Stmt::Alloc { to, moment } => {
+                let g = &turn.space.geometry;
+                match given.which {
+                    Which::Making => self.alloc(to, moment, lent, g, notes, index, core),
+                    Which::Reading => self.noted_alloc(
+                        to, moment, lent, g, notes.slot, index, core,
+                    ),
+                }
+            }
+            Stmt::Parse => self.parse(
+                given.hands,
+                given.input,
+                given.sealed,
+                lent.bucket(),
                 index,
                 core,
             ),
-            Stmt::Parse => self.parse(hands, input, sealed, lent.bucket(), index, core),
-            Stmt::Render => self.render(hands, sealed.answer, scratch, index, core),
+            Stmt::Render => self.render(given.hands, given.sealed.answer, scratch, index, core),
             Stmt::Halt => PassStep::Halted,
         }
     }

@@ -9,7 +9,7 @@ use Rattle.sei_fault.specs.Tree.{Tree, honest}
 use Rattle.sei_fault.specs.Tree.Tree.{Done, Ask}
 use Rattle.sei_log.specs.declared.log.Change.{Change}
 
--- the words behind the undoing of one change, and the cause where it aborts
+-- the words after one change was undone, and the cause if it aborts
 pub record Undone : Type 0 where
   pub words : List ℕ
   pub cause : Option AbortCause
@@ -27,6 +27,10 @@ abbrev pub undo_at : List ℕ → Option Change → Tree Undone
 undo_at words None = Done (record { words = words; cause = None })
 undo_at words (Some c) = undo_tree words c
 
+-- undoing the change that stands n places before the last one
+abbrev pub undo_nth : List Change → ℕ → List ℕ → Tree Undone
+undo_nth log n words = undo_at words (slice_get log (length log - 1 - n))
+
 abbrev pub undone_of : List ℕ → Result (Unit {0}) AbortCause → Undone
 undone_of words (Ok u) = record { words = words; cause = None }
 undone_of words (Err cause) = record { words = words; cause = Some cause }
@@ -39,4 +43,4 @@ LeadsTo before (c ∷ rest) after = (slice_get before c.address ≡ Some c.was) 
 -- the words when, without a strike, the changes at the first n places are undone, counted from the last change
 abbrev pub restored : List Change → List ℕ → ℕ → List ℕ
 restored log words zero = words
-restored log words (suc n) = (honest (undo_at (restored log words n) (slice_get log (length log - 1 - n)))).words
+restored log words (suc n) = (honest (undo_nth log n (restored log words n))).words

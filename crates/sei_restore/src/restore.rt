@@ -1,9 +1,9 @@
 //! Undoing one change.
-ghost use Rattle.std.specs.Prelude.{◌≡◌, ◌-◌, ◌<◌, length, slice_get};
+ghost use Rattle.std.specs.Prelude.{◌≡◌, ◌<◌, length};
 ghost use Rattle.sei_fault.specs.Tree.{Runs};
 ghost use Rattle.sei_words.specs.Exits.{lent_at, lent_left};
 ghost use Rattle.sei_words.specs.LentBucket.{words_of, place_of};
-ghost use Rattle.sei_restore.specs.Undoing.{undo_tree, undo_at, undone_of};
+ghost use Rattle.sei_restore.specs.Undoing.{undo_tree, undo_nth, undone_of};
 
 use sei_fault::{AbortCause, Core};
 use sei_log::{Change, WriteLog};
@@ -22,7 +22,7 @@ pub fn undo<K: Core>(
     core: &mut K,
 ) -> Result<(), AbortCause>
     requires { i < length log.now.items }
-    ensures undone { Runs K.gives (undo_at (words_of (lent_at lent.entry)) (slice_get log.now.items (length log.now.items - 1 - i)))
+    ensures undone { Runs K.gives (undo_nth log.now.items i (words_of (lent_at lent.entry)))
         core.old core.new (undone_of (words_of (lent_left lent.exit)) result) }
     ensures lent { place_of (lent_left lent.exit) ≡ place_of (lent_at lent.entry) }
 {
@@ -40,7 +40,7 @@ pub fn undo_on<L: Lent, K: Core>(
     core: &mut K,
 ) -> Result<(), AbortCause>
     requires { i < length log.now.items }
-    ensures undone { Runs K.gives (undo_at (words_of (L.lent_bucket lent.old)) (slice_get log.now.items (length log.now.items - 1 - i)))
+    ensures undone { Runs K.gives (undo_nth log.now.items i (words_of (L.lent_bucket lent.old)))
         core.old core.new (undone_of (words_of (L.lent_bucket lent.new)) result) }
     ensures lent { place_of (L.lent_bucket lent.new) ≡ place_of (L.lent_bucket lent.old) }
 {

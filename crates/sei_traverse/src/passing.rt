@@ -11,7 +11,7 @@ use crate::turned::Want;
 use crate::workspace::{Ending, Workspace};
 use sei_fault::{Core, Phase, Place};
 use sei_outside::Clock;
-use sei_pass::{PassSpace, PassStep, Slots, Which};
+use sei_pass::{Given, PassSpace, PassStep, Slots, Which};
 use sei_stmt::Handler;
 
 /// The phase of a pass.
@@ -47,32 +47,23 @@ impl Workspace {
         ensures stays { Stays self.old self.new }
         ensures place { self.new.place ≡ self.old.place }
     {
-        let index = self.place.index;
+        let given = Given {
+            which,
+            hands,
+            input,
+            sealed: &self.sealed,
+            clock,
+            index: self.place.index,
+        };
         match which {
-            Which::Making => self.first.step_on(
-                which,
-                hands,
-                input,
-                &self.sealed,
-                lent,
-                &mut self.first_log,
-                &mut self.notes,
-                core,
-                clock,
-                index,
-            ),
-            Which::Reading => self.second.step_on(
-                which,
-                hands,
-                input,
-                &self.sealed,
-                lent,
-                &mut self.second_log,
-                &mut self.notes,
-                core,
-                clock,
-                index,
-            ),
+            Which::Making => {
+                self.first
+                    .step_on(given, lent, &mut self.first_log, &mut self.notes, core)
+            }
+            Which::Reading => {
+                self.second
+                    .step_on(given, lent, &mut self.second_log, &mut self.notes, core)
+            }
         }
     }
 

@@ -8,7 +8,7 @@ use sei_code::{Coded, message_code};
 use sei_fault::PlainCore;
 use sei_log::{Notes, WriteLog};
 use sei_outside::SetClock;
-use sei_pass::{Pass, PassStep, Sealed, Which};
+use sei_pass::{Given, Pass, PassStep, Sealed, Which};
 use sei_stmt::{Program, Stmt};
 use sei_words::Words;
 use tab_find::registers::{NUMBER, VERB};
@@ -40,18 +40,15 @@ fn make(
         code: message_code(0, text),
         answer: 1,
     };
-    pass.step_on(
-        Which::Making,
+    let given = Given {
+        which: Which::Making,
         hands,
-        text,
-        &sealed,
-        words,
-        log,
-        notes,
-        &mut core,
-        &clock,
+        input: text,
+        sealed: &sealed,
+        clock: &clock,
         index,
-    )
+    };
+    pass.step_on(given, words, log, notes, &mut core)
 }
 
 /// Makes at most `left` statements from the index on, and answers how many it made if the pass has halted.

@@ -23,10 +23,10 @@ pub returns-in-Input-clause-tree : goal.returns-in-Input-clause-tree
 returns-in-Input-clause-tree g c = λ s notes. rw c.in-Input.is (c.ask_input.ensures (words_of (g.L.Lent.lent_bucket c.args.lent.now)) c.args.log.now notes)
 
 pub returns-in-Load-clause-tree : goal.returns-in-Load-clause-tree
-returns-in-Load-clause-tree g c = λ s notes. rw c.in-Load.is (c.ask_load.ensures c.args.log.now notes)
+returns-in-Load-clause-tree g c = λ s notes. rw c.in-Load.is (c.ask_load.ensures c.args.log.now s notes)
 
 pub returns-in-Store-clause-tree : goal.returns-in-Store-clause-tree
-returns-in-Store-clause-tree g c = λ s notes. rw c.in-Store.is (c.ask_store.ensures.tree notes)
+returns-in-Store-clause-tree g c = λ s notes. rw c.in-Store.is (c.ask_store.ensures.tree s notes)
 
 pub returns-in-Emit-clause-tree : goal.returns-in-Emit-clause-tree
 returns-in-Emit-clause-tree g c = λ s notes. rw c.in-Emit.is (c.ask_emit.ensures (words_of (g.L.Lent.lent_bucket c.args.lent.now)) c.args.log.now notes)
