@@ -1,5 +1,5 @@
 -- An answer leaves a bucket within its room.
-use Rattle.std.proofs.Common.{◌≡◌, ℕ, suc, ◌+◌, ◌-◌, ◌*◌, ◌%◌, ◌^◌, ◌<◌, ◌≤◌, Bool, true, false, cond, ◌&&◌, List, [], ◌∷◌, ◌++◌, length, refl, arith, Option, Some, None}
+use Rattle.std.proofs.Common.{◌≡◌, ℕ, suc, ◌+◌, ◌-◌, ◌%◌, ◌^◌, ◌<◌, ◌≤◌, Bool, true, false, cond, List, [], ◌∷◌, ◌++◌, length, refl, arith, Option, Some, None}
 use Rattle.std.specs.Prelude.{All, filter, is_some, nat_lt, nat_le, ◌==◌, IfSome}
 use Rattle.std.specs.Option.{option_map}
 use Rattle.std.specs.Str.{bytes_eq}
@@ -13,31 +13,26 @@ use Rattle.mc_model.specs.declared.call.Verb.TheVariants.{Set, Add, Replace, App
 use Rattle.mc_model.specs.declared.outcome.Seen.{Seen}
 use Rattle.mc_model.specs.declared.outcome.Change.{Change}
 use Rattle.mc_model.specs.declared.outcome.Change.TheVariants.{Keep, Put, Draw, Make, Remove, Clear}
-use Rattle.mc_model.specs.Numbers.{digits_from, number_upto, counter_value, is_digit}
+use Rattle.mc_model.specs.Numbers.{number_upto, counter_value}
 use Rattle.mc_model.specs.Bucket.{Item, Entries, Bucket, empty_bucket, lookup, put, without, arrived, is_live}
 use Rattle.mc_model.specs.Call.{Call}
 use Rattle.mc_model.specs.Outcome.{Outcome, outcome_of, adding, comparing, joining, counting}
 use Rattle.mc_model.specs.Answer.{answer, items_after, outcome_in, seen_in}
 use Rattle.mc_model.specs.Server.{IsValid, room_of}
 use Rattle.mc_model.specs.Within.{IsWithin}
+use Rattle.mc_model.proofs.NumberLaws.{number_within}
 use Rattle.mc_model.proofs.MapLaws.{length-put, length-without, answer_map}
 
 -- the number of a counter fits a word
 abbrev IsWord : Option ℕ → Type 0
 IsWord o = IfSome o (λ n. n < 2 ^ 64)
 
-digits_word : (n : ℕ) (bs : List ℕ) → n < 2 ^ 64 → IsWord (digits_from (2 ^ 64 - 1) n bs)
-digits_word n [] h = h
-digits_word n (b ∷ bs) h = by_test (is_digit b) (nat_le (10 * n + (b - 48)) (2 ^ 64 - 1)) refl (digits_word (10 * n + (b - 48)) bs)
-  where
-    by_test : (d t : Bool) → nat_le (10 * n + (b - 48)) (2 ^ 64 - 1) ≡ t → (10 * n + (b - 48) < 2 ^ 64 → IsWord (digits_from (2 ^ 64 - 1) (10 * n + (b - 48)) bs)) → IsWord (cond (d && t) (digits_from (2 ^ 64 - 1) (10 * n + (b - 48)) bs) None)
-    by_test true true e more = more (omega (arith, leb-true _ _ e))
-    by_test true false e more = tt
-    by_test false t e more = tt
-
 number_word : (bs : List ℕ) → IsWord (number_upto (2 ^ 64 - 1) bs)
-number_word [] = tt
-number_word (b ∷ bs) = digits_word 0 (b ∷ bs) (omega arith)
+number_word bs = by_value (number_upto (2 ^ 64 - 1) bs) (number_within (2 ^ 64 - 1) bs)
+  where
+    by_value : (o : Option ℕ) → ((n : ℕ) → o ≡ Some n → n ≤ 2 ^ 64 - 1) → IsWord o
+    by_value None h = tt
+    by_value (Some n) h = omega (arith, h n refl)
 
 counter_word : (v : List ℕ) → IsWord (counter_value v)
 counter_word v = by_test (nat_le (length v) 20)

@@ -1,18 +1,23 @@
 -- Numbers as decimal digits spell them.
 use Rattle.std.specs.Prelude.{ℕ, ◌+◌, ◌*◌, ◌-◌, ◌^◌, Bool, ◌&&◌, nat_le, List, [], ◌∷◌, Option, Some, None, length, if◌then◌else◌}
+use Rattle.std.specs.List.{list_all}
 
 abbrev pub is_digit : ℕ → Bool
 is_digit b = nat_le 48 b && nat_le b 57
 
--- the digits after a number that was read, as long as it is at most max
-abbrev pub digits_from : ℕ → ℕ → List ℕ → Option ℕ
-digits_from max n [] = Some n
-digits_from max n (b ∷ bs) = if is_digit b && nat_le (10 * n + (b - 48)) max then digits_from max (10 * n + (b - 48)) bs else None
+-- the number that these digits spell after others that spell n
+abbrev pub value_after : ℕ → List ℕ → ℕ
+value_after n [] = n
+value_after n (b ∷ bs) = value_after (10 * n + (b - 48)) bs
 
--- the number that is spelled, if it is a number and at most max
+-- the number that digits spell
+abbrev pub decimal_value : List ℕ → ℕ
+decimal_value w = value_after 0 w
+
+-- the number that a word spells, if it is one digit or more, and the number is at most max
 abbrev pub number_upto : ℕ → List ℕ → Option ℕ
 number_upto max [] = None
-number_upto max (b ∷ bs) = digits_from max 0 (b ∷ bs)
+number_upto max (b ∷ bs) = if list_all is_digit (b ∷ bs) && nat_le (decimal_value (b ∷ bs)) max then Some (decimal_value (b ∷ bs)) else None
 
 -- a value that may be counted: 1 to 20 digits
 abbrev pub counter_value : List ℕ → Option ℕ

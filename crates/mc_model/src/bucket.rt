@@ -1,3 +1,5 @@
+//! A bucket of the plain server, and its answer to a call.
+
 ghost use Rattle.std.specs.Prelude.{◌≡◌, ◌<◌, IfOk, OnErr, replicate};
 ghost use Rattle.mc_model.specs.Bucket.{empty_bucket, purged};
 ghost use Rattle.mc_model.specs.Answer.{answer, counter_after, outcome_in};

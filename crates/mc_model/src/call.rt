@@ -1,3 +1,5 @@
+//! Calls as places of the text that they were read from, and what they stand for.
+
 use std::marker::Model;
 
 /// The commands of a call, numbered from 0 in this order.

@@ -1,4 +1,5 @@
-// What each command does at its key, and what it answers.
+//! What each command does at its key, and what it answers.
+
 ghost use Rattle.std.specs.Prelude.{◌≡◌, ◌<◌, ◌++◌, IfOk, Some, None, codes};
 ghost use Rattle.mc_model.specs.Numbers.{counter_value};
 ghost use Rattle.mc_model.specs.Replies.{end_text, value_text};

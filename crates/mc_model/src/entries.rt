@@ -1,4 +1,5 @@
-// The entries of a bucket: a list in which each key stands once.
+//! The entries of a bucket: a list in which each key stands once.
+
 ghost use Rattle.std.specs.Prelude.{◌≡◌, ◌<◌, ◌≤◌, IfSome, length, position, vec_len, vec_capacity};
 ghost use Rattle.std.specs.Option.{option_copied};
 ghost use Rattle.std.specs.Str.{bytes_eq};

@@ -1,3 +1,5 @@
+//! How many buckets, slots and value words a server has.
+
 ghost use Rattle.std.specs.Prelude.{◌≡◌, ◌↔◌, IsTrue};
 
 use crate::call::Room;

@@ -1,5 +1,7 @@
+//! Numbers in decimal digits.
+
 ghost use Rattle.std.specs.Prelude.{◌≡◌, ℕ, ◌^◌, ◌-◌, ◌≤◌, IfSome};
-ghost use Rattle.mc_model.specs.Numbers.{digits_from, number_upto};
+ghost use Rattle.mc_model.specs.Numbers.{number_upto};
 
 /// The number that the bytes spell, if they are one or more decimal digits, with no sign, of a
 /// number of at most `max`. Leading zeros are read.

@@ -1,3 +1,5 @@
+//! What a command does at its key, and what it sees of its bucket.
+
 use crate::call::Room;
 use crate::item::StoredItem;
 use std::marker::Model;

@@ -1,4 +1,5 @@
-// Replies that are no fixed text.
+//! Replies that are no fixed text.
+
 ghost use Rattle.std.specs.Prelude.{◌≡◌, ◌++◌, IfOk, OnOk};
 ghost use Rattle.std.specs.Fmt.{decimal};
 ghost use Rattle.mc_model.specs.Replies.{end_text, unique_text, value_text};

@@ -1,3 +1,5 @@
+//! The plain server.
+
 ghost use Rattle.std.specs.Prelude.{◌≡◌, ◌<◌, IfOk, OnErr, length};
 ghost use Rattle.mc_model.specs.Views.{placed_of, IsSpanOf};
 ghost use Rattle.mc_model.specs.Server.{IsValid, empty_server, server_answer};

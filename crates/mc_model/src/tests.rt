@@ -1,3 +1,5 @@
+//! What no clause says: that calls succeed if there is memory; and the bytes of one `get`, `set`, `get`.
+
 use super::*;
 use sei_code::WordList;
 use std::test::Fail;

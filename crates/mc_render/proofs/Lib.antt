@@ -1,4 +1,5 @@
 pub mod PackedLaws
+pub mod PutsLaws
 pub mod ReaderLaws
 pub mod ShorterLaws
 pub mod RenderedLaws

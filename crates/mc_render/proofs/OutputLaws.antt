@@ -8,6 +8,7 @@ use Rattle.mc_model.specs.Packed.{AreBytes, pack}
 use Rattle.mc_model.specs.Replies.{value_text}
 use Rattle.mc_model.specs.Texts.{line, text_line}
 use Rattle.mc_render.specs.Shown.{shown}
+use Rattle.mc_render.specs.Outputs.{value_words, CanShow}
 use Rattle.mc_render.specs.Rendering.{rendered}
 use Rattle.mc_render.specs.declared.output.Output.TheVariants.{Text, Value, Number}
 use Rattle.mc_render.proofs.RenderedLaws.{rendered_some}
@@ -25,3 +26,6 @@ pub rendered_value : (limit cas : ℕ) (k : List ℕ) (x : Item) (ws : List ℕ)
 rendered_value limit cas k x ws hc bk low high bv fits =
     rendered_some limit _ ws (Value (shown (cas == 1) k x.flags x.unique x.value))
     (rw (le-leb cas 1 hc, le-leb 1 (length k) low, le-leb (length k) 250 high, le-leb (length x.value) limit fits, packed_first k (pack x.value ++ ws) bk, packed_first x.value ws bv) refl)
+
+pub rendered_shown : (limit cas : ℕ) (key : List ℕ) (x : Item) (ws : List ℕ) → CanShow limit cas key x → rendered limit (value_words cas key x ws) ≡ option_map (λ bs. value_text (cas == 1) key x ++ bs) (rendered limit ws)
+rendered_shown limit cas key x ws h = rendered_value limit cas key x ws h.marked h.key_bytes h.some_key h.short_key h.value_bytes h.short_value

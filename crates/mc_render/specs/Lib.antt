@@ -1,3 +1,4 @@
 pub mod Shown
+pub mod Puts
 pub mod Outputs
 pub mod Rendering

@@ -1,8 +1,9 @@
 -- The outputs that make up a reply: their bytes, and the words that stand for them.
-use Rattle.std.specs.Prelude.{ℕ, ◌==◌, ◌&&◌, ◌<◌, nat_le, nat_lt, List, [], ◌∷◌, ◌++◌, codes, Option, Some, None, length, drop, if◌then◌else◌}
+use Rattle.std.specs.Prelude.{ℕ, ◌==◌, ◌&&◌, ◌<◌, ◌≤◌, nat_le, nat_lt, List, [], ◌∷◌, ◌++◌, codes, Option, Some, None, length, drop, if◌then◌else◌}
 use Rattle.std.specs.Option.{option_map, option_and_then}
 use Rattle.std.specs.Fmt.{decimal}
-use Rattle.mc_model.specs.Packed.{words_for, unpacked}
+use Rattle.mc_model.specs.Bucket.{Item}
+use Rattle.mc_model.specs.Packed.{AreBytes, words_for, pack, unpacked}
 use Rattle.mc_model.specs.Replies.{value_text, unique_text}
 use Rattle.mc_model.specs.Texts.{text_count, line, text_line}
 use Rattle.mc_render.specs.Shown.{Shown, shown}
@@ -55,6 +56,19 @@ value_kind = 1
 
 abbrev pub number_kind : ℕ
 number_kind = 2
+
+-- the words that show an item, with its cas unique if cas is 1, and then ws
+abbrev pub value_words : ℕ → List ℕ → Item → List ℕ → List ℕ
+value_words cas key x ws = value_kind ∷ cas ∷ length key ∷ x.flags ∷ length x.value ∷ x.unique ∷ (pack key ++ (pack x.value ++ ws))
+
+-- they are read as this item, if values have at most `limit` bytes
+pub record CanShow (limit cas : ℕ) (key : List ℕ) (x : Item) : Type 0 where
+  pub marked : cas ≤ 1
+  pub key_bytes : AreBytes key
+  pub some_key : 1 ≤ length key
+  pub short_key : length key ≤ 250
+  pub value_bytes : AreBytes x.value
+  pub short_value : length x.value ≤ limit
 
 -- the output that the words begin with, and the words after it
 abbrev pub first_output : ℕ → List ℕ → Option (Output × List ℕ)

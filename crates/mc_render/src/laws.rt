@@ -1,13 +1,12 @@
 //! Laws of the definitions: a function that does nothing, whose clauses are proved once and for all.
 
-ghost use Rattle.std.specs.Prelude.{◌≡◌, ℕ, ◌<◌, ◌≤◌, ◌==◌, List, [], ◌∷◌, ◌++◌, length};
+ghost use Rattle.std.specs.Prelude.{◌≡◌, ℕ, ◌<◌, ◌==◌, List, [], ◌∷◌, ◌++◌, Some};
 ghost use Rattle.std.specs.Option.{option_map};
 ghost use Rattle.std.specs.Fmt.{decimal};
 ghost use Rattle.mc_model.specs.Bucket.{Item};
-ghost use Rattle.mc_model.specs.Packed.{AreBytes, pack};
 ghost use Rattle.mc_model.specs.Replies.{value_text};
 ghost use Rattle.mc_model.specs.Texts.{text_count, line, text_line};
-ghost use Rattle.mc_render.specs.Outputs.{text_kind, value_kind, number_kind};
+ghost use Rattle.mc_render.specs.Outputs.{text_kind, number_kind, value_words, CanShow};
 ghost use Rattle.mc_render.specs.Rendering.{rendered};
 
 /// What each kind of output renders to, followed by what the words behind it render to.
@@ -17,8 +16,6 @@ pub fn words_render_in_order()
         → rendered limit (text_kind ∷ n ∷ ws) ≡ option_map (λ bs. text_line n ++ bs) (rendered limit ws) }
     ensures number { (limit n : ℕ) (ws : List ℕ)
         → rendered limit (number_kind ∷ n ∷ ws) ≡ option_map (λ bs. line (decimal n) ++ bs) (rendered limit ws) }
-    ensures value { (limit cas : ℕ) (key : List ℕ) (x : Item) (ws : List ℕ)
-        → cas ≤ 1 → AreBytes key → 1 ≤ length key → length key ≤ 250 → AreBytes x.value → length x.value ≤ limit
-        → rendered limit (value_kind ∷ cas ∷ length key ∷ x.flags ∷ length x.value ∷ x.unique ∷ (pack key ++ (pack x.value ++ ws)))
-        ≡ option_map (λ bs. value_text (cas == 1) key x ++ bs) (rendered limit ws) }
+    ensures value { (limit cas : ℕ) (key : List ℕ) (x : Item) (ws : List ℕ) → CanShow limit cas key x
+        → rendered limit (value_words cas key x ws) ≡ option_map (λ bs. value_text (cas == 1) key x ++ bs) (rendered limit ws) }
 {}

@@ -1,5 +1,6 @@
 //! Bytes that are packed into words.
-ghost use Rattle.std.specs.Prelude.{◌≡◌, ◌++◌, ◌+◌, ◌<◌, ◌≤◌, length, IfOk, IfErr};
+ghost use Rattle.std.specs.Prelude.{◌≡◌, length};
+ghost use Rattle.mc_render.specs.Puts.{Puts};
 ghost use Rattle.std.specs.Option.{option_map};
 ghost use Rattle.mc_render.specs.Outputs.{first_bytes};
 
@@ -59,10 +60,7 @@ pub fn first_bytes(words: &[u64], length: usize) -> Option<(Packed<'_>, &[u64])>
 
 /// Puts the bytes behind those in the buffer.
 pub fn put_packed(into: &mut Buffer, packed: &Packed<'_>) -> Result<(), NoRoom>
-    ensures items { IfOk result (λ _. into.new.items ≡ into.old.items ++ packed.now) }
-    ensures within { IfOk result (λ _. length into.old.items ≤ into.old.room → length into.new.items ≤ into.old.room) }
-    ensures full { IfErr result (λ _. into.old.room < length into.old.items + length packed.now) }
-    ensures room { into.new.room ≡ into.old.room }
+    ensures { Puts into.old into.new packed.now result }
 {
     let mut left = packed.count;
     for word in packed.words {

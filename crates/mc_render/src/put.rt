@@ -1,5 +1,5 @@
 //! Bytes into a buffer that may be too small for them.
-ghost use Rattle.std.specs.Prelude.{◌≡◌, ◌++◌, ◌+◌, ◌<◌, ◌≤◌, length, IfOk, IfErr};
+ghost use Rattle.mc_render.specs.Puts.{Puts};
 ghost use Rattle.std.specs.Fmt.{decimal};
 
 use sei_code::Buffer;
@@ -10,10 +10,7 @@ pub struct NoRoom;
 
 /// Puts the bytes behind those in the buffer.
 pub fn put(into: &mut Buffer, bytes: &[u8]) -> Result<(), NoRoom>
-    ensures items { IfOk result (λ _. into.new.items ≡ into.old.items ++ bytes.now) }
-    ensures within { IfOk result (λ _. length into.old.items ≤ into.old.room → length into.new.items ≤ into.old.room) }
-    ensures full { IfErr result (λ _. into.old.room < length into.old.items + length bytes.now) }
-    ensures room { into.new.room ≡ into.old.room }
+    ensures { Puts into.old into.new bytes.now result }
 {
     for b in bytes {
         if !into.push(*b) {
@@ -25,10 +22,7 @@ pub fn put(into: &mut Buffer, bytes: &[u8]) -> Result<(), NoRoom>
 
 /// Puts the decimal digits of the number behind the bytes in the buffer.
 pub fn put_decimal(into: &mut Buffer, number: u64) -> Result<(), NoRoom>
-    ensures items { IfOk result (λ _. into.new.items ≡ into.old.items ++ decimal number) }
-    ensures within { IfOk result (λ _. length into.old.items ≤ into.old.room → length into.new.items ≤ into.old.room) }
-    ensures full { IfErr result (λ _. into.old.room < length into.old.items + length (decimal number)) }
-    ensures room { into.new.room ≡ into.old.room }
+    ensures { Puts into.old into.new (decimal number) result }
 {
     put(into, itoa::Buffer::new().format(number).as_bytes())
 }

@@ -1,5 +1,6 @@
 //! Outputs written as the bytes of a reply.
-ghost use Rattle.std.specs.Prelude.{◌≡◌, ◌++◌, ◌+◌, ◌<◌, ◌≤◌, length, codes, IfOk, IfErr};
+ghost use Rattle.std.specs.Prelude.{◌++◌, codes};
+ghost use Rattle.mc_render.specs.Puts.{Puts};
 ghost use Rattle.std.specs.Fmt.{decimal};
 ghost use Rattle.mc_model.specs.Texts.{line};
 ghost use Rattle.mc_render.specs.Outputs.{value_head, output_text, IsKnown};
@@ -12,10 +13,7 @@ use sei_code::Buffer;
 
 /// A space and the number.
 fn put_field(into: &mut Buffer, number: u64) -> Result<(), NoRoom>
-    ensures items { IfOk result (λ _. into.new.items ≡ into.old.items ++ codes " " ++ decimal number) }
-    ensures within { IfOk result (λ _. length into.old.items ≤ into.old.room → length into.new.items ≤ into.old.room) }
-    ensures full { IfErr result (λ _. into.old.room < length into.old.items + length (codes " " ++ decimal number)) }
-    ensures room { into.new.room ≡ into.old.room }
+    ensures { Puts into.old into.new (codes " " ++ decimal number) result }
 {
     put(into, b" ")?;
     put_decimal(into, number)
@@ -23,10 +21,7 @@ fn put_field(into: &mut Buffer, number: u64) -> Result<(), NoRoom>
 
 /// The line above a value, without its end.
 fn put_head(into: &mut Buffer, shown: &ShownItem<'_>) -> Result<(), NoRoom>
-    ensures items { IfOk result (λ _. into.new.items ≡ into.old.items ++ value_head shown.now) }
-    ensures within { IfOk result (λ _. length into.old.items ≤ into.old.room → length into.new.items ≤ into.old.room) }
-    ensures full { IfErr result (λ _. into.old.room < length into.old.items + length (value_head shown.now)) }
-    ensures room { into.new.room ≡ into.old.room }
+    ensures { Puts into.old into.new (value_head shown.now) result }
 {
     put(into, b"VALUE ")?;
     put_packed(into, &shown.key)?;
@@ -39,10 +34,7 @@ fn put_head(into: &mut Buffer, shown: &ShownItem<'_>) -> Result<(), NoRoom>
 }
 
 fn put_value(into: &mut Buffer, shown: &ShownItem<'_>) -> Result<(), NoRoom>
-    ensures items { IfOk result (λ _. into.new.items ≡ into.old.items ++ line (value_head shown.now) ++ line shown.now.item.value) }
-    ensures within { IfOk result (λ _. length into.old.items ≤ into.old.room → length into.new.items ≤ into.old.room) }
-    ensures full { IfErr result (λ _. into.old.room < length into.old.items + length (line (value_head shown.now) ++ line shown.now.item.value)) }
-    ensures room { into.new.room ≡ into.old.room }
+    ensures { Puts into.old into.new (line (value_head shown.now) ++ line shown.now.item.value) result }
 {
     put_head(into, shown)?;
     put(into, b"\r\n")?;
@@ -51,10 +43,7 @@ fn put_value(into: &mut Buffer, shown: &ShownItem<'_>) -> Result<(), NoRoom>
 }
 
 fn put_number(into: &mut Buffer, number: u64) -> Result<(), NoRoom>
-    ensures items { IfOk result (λ _. into.new.items ≡ into.old.items ++ line (decimal number)) }
-    ensures within { IfOk result (λ _. length into.old.items ≤ into.old.room → length into.new.items ≤ into.old.room) }
-    ensures full { IfErr result (λ _. into.old.room < length into.old.items + length (line (decimal number))) }
-    ensures room { into.new.room ≡ into.old.room }
+    ensures { Puts into.old into.new (line (decimal number)) result }
 {
     put_decimal(into, number)?;
     put(into, b"\r\n")
@@ -63,10 +52,7 @@ fn put_number(into: &mut Buffer, number: u64) -> Result<(), NoRoom>
 /// Puts the bytes of an output behind those in the buffer.
 pub fn put_output(into: &mut Buffer, output: &Output<'_>) -> Result<(), NoRoom>
     requires { IsKnown output.now }
-    ensures items { IfOk result (λ _. into.new.items ≡ into.old.items ++ output_text output.now) }
-    ensures within { IfOk result (λ _. length into.old.items ≤ into.old.room → length into.new.items ≤ into.old.room) }
-    ensures full { IfErr result (λ _. into.old.room < length into.old.items + length (output_text output.now)) }
-    ensures room { into.new.room ≡ into.old.room }
+    ensures { Puts into.old into.new (output_text output.now) result }
 {
     match output {
         Output::Text(number) => put(into, text(*number)),

@@ -27,7 +27,8 @@ use Rattle.mc_text.specs.Spells.{Spells, TooLong, OneLine, WithBlock, line_says,
 use Rattle.mc_text.specs.Stream.{Takes, requests, rest_of, up_to_end, own_calls}
 use Rattle.mc_text.specs.Fits.{HasKey, HasReadFields, IsFit}
 use Rattle.mc_text.proofs.StreamLaws.{is_split}
-use Rattle.mc_text.proofs.NumberLaws.{number_within, exptime_within}
+use Rattle.mc_model.proofs.Public.{number_within}
+use Rattle.mc_text.proofs.NumberLaws.{exptime_within}
 use Rattle.mc_text.proofs.PublicCommands.{form_has_key, form_is_read, text_is_read}
 
 -- a call at a key stands at the bucket of its key
