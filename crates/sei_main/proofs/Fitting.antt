@@ -17,7 +17,7 @@ pub record FitBehind (opens : ℕ) (script : List ScriptLine) : Type 0 where
   pub fit : AreFit context script
 
 few_by : (opens : ℕ) (x : Context) (e : Effect) → opens ≡ x.opens → opens ≤ most_connections → IsPlaced x e → (context_by x e).opens ≤ most_connections
-few_by opens x (Opens c) e h f = omega (arith, f.1, f.2)
+few_by opens x (Opens c mode) e h f = omega (arith, f.1, f.2)
 few_by opens x other e h f = omega (arith, e, h)
 
 module _ {S : Type 0} (step : Stepping S) (law : IsStepping step) where

@@ -150,7 +150,7 @@ module _ {S : Type 0} (answering : Answering S) (R : S → Server → Type 0) (g
   -- what a line does, by its effect
   done_keeps : (p : List ScriptLine) (t : ToldOf S) (x : Context) (line : ScriptLine) (does : Effect) → effect_of line ≡ does → DoesBytes does → length t.state.seats ≡ x.opens → IsPlaced x does
       → Kept R g plans (λ c. fed_to c p) t → Kept R g plans (λ c. fed_to c (p ++ line ∷ [])) (told t (done_by stepping t.state does))
-  done_keeps p t x line (Opens n) same says e f k =
+  done_keeps p t x line (Opens n mode) same says e f k =
       quiet R g plans (λ c. fed_to c p) (λ c. fed_to c (p ++ line ∷ [])) t (t.state.seats ++ empty_seat ∷ []) k
       (All-push IsFedBytes t.state.seats empty_seat k.bytes (All-nil (λ b. b < 256)))
       (λ c. refed_seat (length plans) (limits_of g) (fed_to c p) _ _ _ _ (fed_none c p line (ap (fed_in c) same))

@@ -140,7 +140,7 @@ module _ {S : Type 0} (step : Stepping S) (law : IsStepping step) where
   rounds_length (suc m) s = rounds_length_by m s (round_by step s).went (rounds_length m)
 
   done_length : (s : StateOf S) (x : Context) (e : Effect) → length s.seats ≡ x.opens → length (done_by step s e).state.seats ≡ (context_by x e).opens
-  done_length s x (Opens c) e = length_push s.seats empty_seat ∙ ap (λ (n : ℕ). n + 1) e
+  done_length s x (Opens c mode) e = length_push s.seats empty_seat ∙ ap (λ (n : ℕ). n + 1) e
   done_length s x (Feeds c bytes) e = length-set s.seats c _ ∙ e
   done_length s x Serves e = rounds_length (bytes_waiting s.seats + 1) s ∙ e
   done_length s x other e = e

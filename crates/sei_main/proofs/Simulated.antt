@@ -228,7 +228,7 @@ module _ {S : Type 0} (answering : Answering S) (g : Geometry) (R : S → Server
         })
 
     done_alike : (s : StateOf S) (t : State) (does : Effect) → DoesBytes does → Alike R g s t → WentAlike R g (done_by (step_by answering) s does) (done_by step t does)
-    done_alike s t (Opens c) h a =
+    done_alike s t (Opens c mode) h a =
         idle_alike R g (record s { seats = s.seats ++ empty_seat ∷ [] }) (record t { seats = t.seats ++ empty_seat ∷ [] })
         (record {
           left = a.left;

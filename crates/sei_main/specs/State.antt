@@ -101,7 +101,7 @@ module _ {S : Type 0} (step : Stepping S) where
   drained_by s = rounds_by (bytes_waiting s.seats + 1) s
 
   abbrev pub done_by : StateOf S → Effect → WentOf S
-  done_by s (Opens c) = idle (record s { seats = s.seats ++ empty_seat ∷ [] })
+  done_by s (Opens c mode) = idle (record s { seats = s.seats ++ empty_seat ∷ [] })
   done_by s (Feeds c bytes) = idle (fed s c bytes)
   done_by s Serves = drained_by s
   done_by s (SetsClock now) = idle (record s { clock = now })

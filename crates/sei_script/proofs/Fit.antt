@@ -6,6 +6,7 @@ use Rattle.std.specs.Str.Lines.{strip_carriage_return}
 use Rattle.std.proofs.lemmas.Bool.Decides.{nat_tests}
 use Rattle.mc_model.specs.declared.geometry.Geometry.{Geometry}
 use Rattle.mc_model.specs.Server.{IsValid}
+use Rattle.sei_code.specs.declared.modes.Mode.TheVariants.{Plain}
 use Rattle.sei_script.specs.Context.{empty_context, context_by, context_after, context_from, context_of, geometry_or, geometry_of}
 use Rattle.sei_script.specs.Effects.{Effect, Sizes, Opens, Feeds, Serves, SetsClock, PlansFault, effect_of}
 use Rattle.sei_script.specs.Escapes.{unescaped}
@@ -19,7 +20,7 @@ use Rattle.sei_script.specs.Says.{with_part, at_end, is_in_limits, geometry_numb
 use Rattle.sei_script.specs.Limits.{most_connections}
 use Rattle.sei_script.specs.declared.line.Context.{Context}
 use Rattle.sei_script.specs.declared.line.ScriptLine.{ScriptLine}
-use Rattle.sei_script.specs.declared.line.ScriptLine.TheVariants.{Geometry as GeometryLine, Open, Say, Hex, Drain, Clock, Fault}
+use Rattle.sei_script.specs.declared.line.ScriptLine.TheVariants.{Geometry as GeometryLine, Open, Say, Hex, Drain, Fault}
 use Rattle.sei_script.specs.declared.line.Why.TheVariants.{TooBig, GeometryOutOfLimits, TooManyConnections, WrongNumber, UnknownConnection, SecondFault}
 use Rattle.sei_script.specs.declared.line.Said.{Said}
 use Rattle.sei_script.specs.declared.line.Said.TheVariants.{Nothing, Line, Wrong}
@@ -65,7 +66,7 @@ behind_fit x None said e h = tt
 behind_fit x (Some g) said e h = h (subst (λ (o : Option Geometry). IsSome o) (sym e) refl)
 
 open_by : (x : Context) (c : ℕ) (big next : Bool) → IsSome x.geometry → nat_le most_connections c ≡ big → (c == x.opens) ≡ next
-    → Fit x (if big then Wrong TooManyConnections else (if next then Line (Open c) else Wrong WrongNumber))
+    → Fit x (if big then Wrong TooManyConnections else (if next then Line (Open c Plain) else Wrong WrongNumber))
 open_by x c true next s p q = tt
 open_by x c false true s p q = (s, grind (arith, nat_tests), grind (arith, nat_tests))
 open_by x c false false s p q = tt
@@ -135,7 +136,7 @@ fit_more x [] line h f = (f, tt)
 fit_more x (first ∷ script) line h f = (h.0, fit_more (context_after x first) script line h.1 f)
 
 few_by : (x : Context) (e : Effect) → x.opens ≤ most_connections → IsPlaced x e → (context_by x e).opens ≤ most_connections
-few_by x (Opens c) h f = omega (arith, f.1, f.2)
+few_by x (Opens c mode) h f = omega (arith, f.1, f.2)
 few_by x other h f = h
 
 -- no more connections are opened than there may be
@@ -168,7 +169,7 @@ known_by script (Sizes first) g p h e =
     let both : Some first ≡ Some g = sym (geometry_from (context_by empty_context (Sizes first)) script first refl h) ∙ e in
     let same : first ≡ g = cc in
     record { first = sym same; valid = subst (λ (x : Geometry). IsValid x) same p.1 }
-known_by script (Opens c) g p h e = no_geometry p.0
+known_by script (Opens c mode) g p h e = no_geometry p.0
 known_by script (Feeds c bytes) g p h e = no_geometry p.0
 known_by script Serves g p h e = no_geometry p
 known_by script (SetsClock now) g p h e = no_geometry p

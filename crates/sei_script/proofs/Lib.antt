@@ -12,4 +12,5 @@ pub mod Numerals
 pub mod WordLaws
 pub mod PlanLaws
 pub mod SpellingLaws
+pub mod OneSpelling
 pub mod Public

@@ -8,6 +8,8 @@ use Rattle.std.proofs.lemmas.Bool.Decides.{nat_tests}
 use Rattle.std.proofs.lemmas.Slice.Eq.{bytes_eq-Decides}
 use Rattle.mc_model.specs.declared.geometry.Geometry.{Geometry}
 use Rattle.mc_model.specs.Server.{IsValid}
+use Rattle.sei_code.specs.declared.modes.Mode.{Mode}
+use Rattle.sei_code.specs.declared.modes.Mode.TheVariants.{Plain, Coded}
 use Rattle.sei_fault.specs.declared.plan.Planned.{Planned}
 use Rattle.sei_script.specs.Escapes.{unescaped}
 use Rattle.sei_script.specs.Context.{context_of}
@@ -38,7 +40,7 @@ use Rattle.sei_script.proofs.WordLaws.{tail, cut, is_word, word_front, word_behi
 -- what a spelled line is told by its place, once the geometry stands where it has to
 abbrev pub placed : Context → ScriptLine → Said
 placed x (GeometryLine g) = if is_in_limits g then Line (GeometryLine g) else Wrong GeometryOutOfLimits
-placed x (Open c) = open_number x c
+placed x (Open c mode) = if nat_le most_connections c then Wrong TooManyConnections else (if c == x.opens then Line (Open c mode) else Wrong WrongNumber)
 placed x (Say c bytes) = of_open x c (Say c bytes)
 placed x (Hex c bytes) = of_open x c (Hex c bytes)
 placed x Drain = Line Drain
@@ -53,7 +55,7 @@ first_geometry (Some g) said = Wrong BadLine
 -- what a spelled line is told
 abbrev pub told : Context → ScriptLine → Said
 told x (GeometryLine g) = first_geometry x.geometry (placed x (GeometryLine g))
-told x (Open c) = behind_geometry x.geometry (placed x (Open c))
+told x (Open c mode) = behind_geometry x.geometry (placed x (Open c mode))
 told x (Say c bytes) = behind_geometry x.geometry (placed x (Say c bytes))
 told x (Hex c bytes) = behind_geometry x.geometry (placed x (Hex c bytes))
 told x Drain = behind_geometry x.geometry (placed x Drain)
@@ -94,7 +96,8 @@ spelled_says x text (GeometryLine g) h =
     let t : Option (List ℕ) = Some (numeral g.buckets ++ tail (Some (numeral g.slots ++ tail (Some (numeral g.value_words ++ tail None))))) in
     let is : text ≡ codes "geometry" ++ tail t = h ∙ ap (λ (w : List ℕ). codes "geometry" ++ 32 ∷ (numeral g.buckets ++ 32 ∷ (numeral g.slots ++ 32 ∷ w))) (sym (append-nil (numeral g.value_words))) in
     ap (text_says x) is ∙ kind_read x (codes "geometry") t refl refl ∙ geometry_read x.geometry g
-spelled_says x text (Open c) h =
+spelled_says x text (Open c Coded) h = absurd h
+spelled_says x text (Open c Plain) h =
     let t : Option (List ℕ) = Some (numeral c ++ tail (Some (codes "plain"))) in
     let is : text ≡ codes "open" ++ tail t = h in
     ap (text_says x) is ∙ kind_read x (codes "open") t refl refl ∙ ap (behind_geometry x.geometry) (open_read x c)
@@ -149,7 +152,7 @@ module _ (x : Context) (text : List ℕ) (rest : Option (List ℕ)) where
   open_known : text ≡ codes "open" ++ tail rest → K (open_says x rest)
   open_known is =
       by_part K bad (first_number rest) _ (λ c e. by_part K bad c.rest _ (λ mode f.
-      by_word K mode (codes "plain") _ _ (λ g. Spelled (Open c.number)
+      by_word K mode (codes "plain") _ _ (λ g. Spelled (Open c.number Plain)
       (is ∙ ap (λ (r : Option (List ℕ)). codes "open" ++ tail r) (first_cut rest c e)
       ∙ ap (λ (r : Option (List ℕ)). codes "open" ++ 32 ∷ (numeral c.number ++ tail r)) f
       ∙ ap (λ (m : List ℕ). codes "open" ++ 32 ∷ (numeral c.number ++ 32 ∷ m)) g)) (λ _. bad)))
@@ -202,7 +205,8 @@ word_at text kind t h is = ap word_of is ∙ word_front kind t h
 
 spelled_kind : (text : List ℕ) (s : ScriptLine) → SpellsLine text s → HasKind text
 spelled_kind text (GeometryLine g) h = OfGeometry (word_at text (codes "geometry") (Some _) refl h)
-spelled_kind text (Open c) h = OfOpen (word_at text (codes "open") (Some _) refl h)
+spelled_kind text (Open c Coded) h = absurd h
+spelled_kind text (Open c Plain) h = OfOpen (word_at text (codes "open") (Some _) refl h)
 spelled_kind text (Say c bytes) h = OfSay (word_at text (codes "say") (Some _) refl h.spelled)
 spelled_kind text (Hex c bytes) h = OfHex (word_at text (codes "hex") (Some _) refl h.spelled)
 spelled_kind text Drain h = OfDrain (ap word_of h)
@@ -218,7 +222,8 @@ other text kind f e g = let h : true ≡ false = sym (ap (λ w. bytes_eq w (code
 
 not_skipped : (text : List ℕ) (s : ScriptLine) → SpellsLine text s → is_skipped text ≡ false
 not_skipped text (GeometryLine g) h = ap is_skipped h
-not_skipped text (Open c) h = ap is_skipped h
+not_skipped text (Open c Coded) h = absurd h
+not_skipped text (Open c Plain) h = ap is_skipped h
 not_skipped text (Say c bytes) h = ap is_skipped h.spelled
 not_skipped text (Hex c bytes) h = ap is_skipped h.spelled
 not_skipped text Drain h = ap is_skipped h
@@ -292,8 +297,9 @@ out_of_limits g n = by (is_in_limits g) refl
     by true e = absurd (n (valid_in_limits g e))
     by false e = refl
 
-opened_by : (x : Context) (c : ℕ) (big next : Bool) → nat_le most_connections c ≡ big → (c == x.opens) ≡ next → open_number x c ≡ (if big then Wrong TooManyConnections else (if next then Line (Open c) else Wrong WrongNumber))
-opened_by x c big next p q = rw (p, q) refl
+opened_by : (x : Context) (c : ℕ) (mode : Mode) (big next : Bool) → nat_le most_connections c ≡ big → (c == x.opens) ≡ next
+    → placed x (Open c mode) ≡ (if big then Wrong TooManyConnections else (if next then Line (Open c mode) else Wrong WrongNumber))
+opened_by x c mode big next p q = rw (p, q) refl
 
 below_open : (x : Context) (c : ℕ) (line : ScriptLine) → c < x.opens → of_open x c line ≡ Line line
 below_open x c line h = ap (λ (t : Bool). if t then Line line else Wrong UnknownConnection) {x = nat_lt c x.opens} {y = true} (grind (arith, nat_tests))
@@ -303,7 +309,7 @@ past_open x c line h = ap (λ (t : Bool). if t then Line line else Wrong Unknown
 
 told_placed : (x : Context) (s : ScriptLine) → IsWellPlaced x s → told x s ≡ Line s
 told_placed x (GeometryLine g) h = told_first x.geometry _ h.0 ∙ sym (in_limits g true (in_limits_valid g h.1))
-told_placed x (Open c) h = told_behind x.geometry _ h.0 ∙ opened_by x c false true (grind (arith, nat_tests)) (grind (arith, nat_tests))
+told_placed x (Open c mode) h = told_behind x.geometry _ h.0 ∙ opened_by x c mode false true (grind (arith, nat_tests)) (grind (arith, nat_tests))
 told_placed x (Say c bytes) h = told_behind x.geometry _ h.0 ∙ below_open x c (Say c bytes) h.1
 told_placed x (Hex c bytes) h = told_behind x.geometry _ h.0 ∙ below_open x c (Hex c bytes) h.1
 told_placed x Drain h = told_behind x.geometry _ h
@@ -312,7 +318,7 @@ told_placed x (Fault c t plan) h = told_behind x.geometry _ h.0 ∙ below_open x
 
 told_unknown : (x : Context) (s : ScriptLine) (c : ℕ) → IsSome x.geometry → connection_of s ≡ Some c → x.opens ≤ c → told x s ≡ Wrong UnknownConnection
 told_unknown x (GeometryLine g) c some e past = cc
-told_unknown x (Open d) c some e past = cc
+told_unknown x (Open d mode) c some e past = cc
 told_unknown x (Say d bytes) c some e past = let same : d ≡ c = cc in told_behind x.geometry _ some ∙ past_open x d (Say d bytes) (omega arith)
 told_unknown x (Hex d bytes) c some e past = let same : d ≡ c = cc in told_behind x.geometry _ some ∙ past_open x d (Hex d bytes) (omega arith)
 told_unknown x Drain c some e past = cc
@@ -345,12 +351,12 @@ cause_says x text UnknownLine s h = at_other x text s (λ e. h.1 (OfGeometry e))
 cause_says x text BadLine s h = bad_says x text s h.0 h.1 h.2
 cause_says x text GeometryOutOfLimits s h =
     spelled_says x text (GeometryLine h.1.0) h.1.1 ∙ told_first x.geometry _ h.0 ∙ sym (in_limits h.1.0 false (out_of_limits h.1.0 h.1.2))
-cause_says x text TooManyConnections s h = let big : nat_le most_connections h.1.0 ≡ true = grind (arith, nat_tests, h.1.2) in
-    spelled_says x text (Open h.1.0) h.1.1 ∙ told_behind x.geometry _ h.0 ∙ opened_by x h.1.0 true _ big refl
+cause_says x text TooManyConnections s h = let big : nat_le most_connections h.1.0 ≡ true = grind (arith, nat_tests, h.1.3) in
+    spelled_says x text (Open h.1.0 h.1.1) h.1.2 ∙ told_behind x.geometry _ h.0 ∙ opened_by x h.1.0 h.1.1 true _ big refl
 cause_says x text WrongNumber s h =
-    let big : nat_le most_connections h.1.0 ≡ false = grind (arith, nat_tests, h.1.2) in
-    let next : (h.1.0 == x.opens) ≡ false = grind (arith, nat_tests, h.1.3) in
-    spelled_says x text (Open h.1.0) h.1.1 ∙ told_behind x.geometry _ h.0 ∙ opened_by x h.1.0 false false big next
+    let big : nat_le most_connections h.1.0 ≡ false = grind (arith, nat_tests, h.1.3) in
+    let next : (h.1.0 == x.opens) ≡ false = grind (arith, nat_tests, h.1.4) in
+    spelled_says x text (Open h.1.0 h.1.1) h.1.2 ∙ told_behind x.geometry _ h.0 ∙ opened_by x h.1.0 h.1.1 false false big next
 cause_says x text UnknownConnection s h =
     let n : NeedsUnknown x text = h.1 in
     spelled_says x text n.line n.spelled ∙ told_unknown x n.line n.connection h.0 n.needs n.unknown
@@ -377,10 +383,10 @@ geometry_by x text g (Some f) t h e p =
 geometry_by x text g None true h e p = (Line (GeometryLine g), (h, (e, valid_in_limits g p)))
 geometry_by x text g None false h e p = (Wrong GeometryOutOfLimits, (not_skipped text (GeometryLine g) h, (e, (g, h, λ v. let q : true ≡ false = sym (in_limits_valid g v) ∙ p in cc))))
 
-open_by : (x : Context) (text : List ℕ) (c : ℕ) (big next : Bool) → SpellsLine text (Open c) → IsSome x.geometry → nat_le most_connections c ≡ big → (c == x.opens) ≡ next → Something x text
-open_by x text c true next h some p q = (Wrong TooManyConnections, (not_skipped text (Open c) h, (some, (c, h, grind (arith, nat_tests)))))
-open_by x text c false true h some p q = (Line (Open c), (h, (some, grind (arith, nat_tests), grind (arith, nat_tests))))
-open_by x text c false false h some p q = (Wrong WrongNumber, (not_skipped text (Open c) h, (some, (c, h, grind (arith, nat_tests), grind (arith, nat_tests)))))
+open_by : (x : Context) (text : List ℕ) (c : ℕ) (mode : Mode) (big next : Bool) → SpellsLine text (Open c mode) → IsSome x.geometry → nat_le most_connections c ≡ big → (c == x.opens) ≡ next → Something x text
+open_by x text c mode true next h some p q = (Wrong TooManyConnections, (not_skipped text (Open c mode) h, (some, (c, mode, h, grind (arith, nat_tests)))))
+open_by x text c mode false true h some p q = (Line (Open c mode), (h, (some, grind (arith, nat_tests), grind (arith, nat_tests))))
+open_by x text c mode false false h some p q = (Wrong WrongNumber, (not_skipped text (Open c mode) h, (some, (c, mode, h, grind (arith, nat_tests), grind (arith, nat_tests)))))
 
 needs_by : (x : Context) (text : List ℕ) (s : ScriptLine) (c : ℕ) (known : Bool) → SpellsLine text s → IsSome x.geometry → connection_of s ≡ Some c → nat_lt c x.opens ≡ known → (c < x.opens → IsWellPlaced x s) → Something x text
 needs_by x text s c true h some e p f = (Line s, (h, f (grind (arith, nat_tests))))
@@ -389,8 +395,9 @@ needs_by x text s c false h some e p f =
 
 spelled_said : (x : Context) (text : List ℕ) (s : ScriptLine) → MayStand x text → SpellsLine text s → Something x text
 spelled_said x text (GeometryLine g) m h = geometry_by x text g x.geometry (is_in_limits g) h refl refl
-spelled_said x text (Open c) m h =
-    open_by x text c (nat_le most_connections c) (c == x.opens) h (some_geometry x text (other text (codes "open") refl (word_at text (codes "open") (Some _) refl h)) m) refl refl
+spelled_said x text (Open c Coded) m h = absurd h
+spelled_said x text (Open c Plain) m h =
+    open_by x text c Plain (nat_le most_connections c) (c == x.opens) h (some_geometry x text (other text (codes "open") refl (word_at text (codes "open") (Some _) refl h)) m) refl refl
 spelled_said x text (Say c bytes) m h =
     let some : IsSome x.geometry = some_geometry x text (other text (codes "say") refl (word_at text (codes "say") (Some _) refl h.spelled)) m in
     needs_by x text (Say c bytes) c (nat_lt c x.opens) h some refl refl (λ l. (some, l))

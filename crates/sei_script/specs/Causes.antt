@@ -2,6 +2,7 @@
 use Rattle.std.specs.Prelude.{◌≡◌, ◌≢◌, ◌≤◌, ◌<◌, ℕ, true, false, List, Some, None, IsSome, ◌⊎◌, codes}
 use Rattle.mc_model.specs.declared.geometry.Geometry.{Geometry}
 use Rattle.mc_model.specs.Server.{IsValid}
+use Rattle.sei_code.specs.declared.modes.Mode.{Mode}
 use Rattle.sei_script.specs.Context.{context_of}
 use Rattle.sei_script.specs.Effects.{connection_of}
 use Rattle.sei_script.specs.Faults.{is_planned, is_second_line}
@@ -52,8 +53,8 @@ IsCause x text GeometryMissing = (x.geometry ≡ None) × (word_of text ≢ code
 IsCause x text UnknownLine = IsSome x.geometry × ¬ (HasKind text)
 IsCause x text BadLine = MayStand x text × HasKind text × IsBad x text
 IsCause x text GeometryOutOfLimits = (x.geometry ≡ None) × ((g : Geometry) × SpellsLine text (GeometryLine g) × ¬ (IsValid g))
-IsCause x text TooManyConnections = IsSome x.geometry × ((c : ℕ) × SpellsLine text (Open c) × (most_connections ≤ c))
-IsCause x text WrongNumber = IsSome x.geometry × ((c : ℕ) × SpellsLine text (Open c) × (c < most_connections) × (c ≢ x.opens))
+IsCause x text TooManyConnections = IsSome x.geometry × ((c : ℕ) × (mode : Mode) × SpellsLine text (Open c mode) × (most_connections ≤ c))
+IsCause x text WrongNumber = IsSome x.geometry × ((c : ℕ) × (mode : Mode) × SpellsLine text (Open c mode) × (c < most_connections) × (c ≢ x.opens))
 IsCause x text UnknownConnection = IsSome x.geometry × NeedsUnknown x text
 IsCause x text SecondFault = ⊥
 IsCause x text TooBig = ⊥

@@ -11,7 +11,7 @@ empty_context = record { geometry = None; opens = 0 }
 
 abbrev pub context_by : Context → Effect → Context
 context_by x (Sizes g) = record x { geometry = Some g }
-context_by x (Opens c) = record x { opens = x.opens + 1 }
+context_by x (Opens c mode) = record x { opens = x.opens + 1 }
 context_by x other = x
 
 -- after a line

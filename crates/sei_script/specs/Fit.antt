@@ -10,7 +10,7 @@ use Rattle.sei_script.specs.declared.line.ScriptLine.{ScriptLine}
 -- the first line is a valid geometry and no other is one; a connection is opened in its turn, its number below the most, and is open where a line speaks of it
 abbrev pub IsPlaced : Context → Effect → Type 0
 IsPlaced x (Sizes g) = (x.geometry ≡ None) × IsValid g
-IsPlaced x (Opens c) = IsSome x.geometry × (c ≡ x.opens) × (c < most_connections)
+IsPlaced x (Opens c mode) = IsSome x.geometry × (c ≡ x.opens) × (c < most_connections)
 IsPlaced x (Feeds c bytes) = IsSome x.geometry × (c < x.opens)
 IsPlaced x (PlansFault c t plan) = IsSome x.geometry × (c < x.opens)
 IsPlaced x other = IsSome x.geometry

@@ -3,6 +3,7 @@ use Rattle.std.specs.Prelude.{ℕ, Bool, true, ◌&&◌, List, [], ◌∷◌, na
 use Rattle.std.specs.Str.{bytes_eq}
 use Rattle.std.specs.Str.Lines.{strip_carriage_return}
 use Rattle.mc_model.specs.declared.geometry.Geometry.{Geometry}
+use Rattle.sei_code.specs.declared.modes.Mode.TheVariants.{Plain}
 use Rattle.sei_script.specs.Escapes.{unescaped}
 use Rattle.sei_script.specs.Hexadecimal.{unhexed}
 use Rattle.sei_script.specs.Lines.{word_of, behind_word, first_number, first_exact, last_exact}
@@ -52,7 +53,7 @@ behind_geometry None said = Wrong GeometryMissing
 behind_geometry (Some g) said = said
 
 abbrev pub open_number : Context → ℕ → Said
-open_number x c = if nat_le most_connections c then Wrong TooManyConnections else (if c == x.opens then Line (Open c) else Wrong WrongNumber)
+open_number x c = if nat_le most_connections c then Wrong TooManyConnections else (if c == x.opens then Line (Open c Plain) else Wrong WrongNumber)
 
 abbrev pub open_says : Context → Option (List ℕ) → Said
 open_says x rest =

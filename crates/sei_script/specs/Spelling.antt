@@ -2,6 +2,7 @@
 use Rattle.std.specs.Prelude.{◌≡◌, ◌<◌, ◌≤◌, ◌^◌, ◌/◌, ◌%◌, ℕ, suc, false, List, [], ◌∷◌, ◌++◌, All, ⊤, codes}
 use Rattle.std.specs.Fmt.{decimal, digits_onto}
 use Rattle.std.specs.List.{flat_map}
+use Rattle.sei_code.specs.declared.modes.Mode.TheVariants.{Plain, Coded}
 use Rattle.sei_fault.specs.declared.plan.Select.{Select}
 use Rattle.sei_fault.specs.declared.plan.Select.TheVariants.{Index, Load, Store, Now, Alloc, Parse, Render, Halt}
 use Rattle.sei_fault.specs.declared.plan.Kind.{Kind}
@@ -97,10 +98,11 @@ pub record SpellsFault (text : List ℕ) (c t : ℕ) (plan : Planned) : Type 0 w
   pub select : IsSelect plan.select
   pub kind : IsKind plan.kind
 
--- what a line's text is, a row for each kind of line
+-- what a line's text is, a row for each kind of line; no text opens a coded connection
 abbrev pub SpellsLine : List ℕ → ScriptLine → Type 0
 SpellsLine text (GeometryLine g) = text ≡ spaced (codes "geometry" ∷ numeral g.buckets ∷ numeral g.slots ∷ numeral g.value_words ∷ [])
-SpellsLine text (Open c) = text ≡ spaced (codes "open" ∷ numeral c ∷ codes "plain" ∷ [])
+SpellsLine text (Open c Plain) = text ≡ spaced (codes "open" ∷ numeral c ∷ codes "plain" ∷ [])
+SpellsLine text (Open c Coded) = ⊥
 SpellsLine text (Say c bytes) = SpellsSay text c bytes
 SpellsLine text (Hex c bytes) = SpellsHex text c bytes
 SpellsLine text Drain = text ≡ codes "drain"

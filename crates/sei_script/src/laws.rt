@@ -6,7 +6,7 @@ ghost use Rattle.std.specs.Str.Lines.{strip_carriage_return};
 ghost use Rattle.sei_script.specs.Context.{context_of};
 ghost use Rattle.sei_script.specs.Faults.{once};
 ghost use Rattle.sei_script.specs.Says.{line_says};
-ghost use Rattle.sei_script.specs.Spelling.{numeral};
+ghost use Rattle.sei_script.specs.Spelling.{numeral, SpellsLine};
 ghost use Rattle.sei_script.specs.Causes.{IsSaidOnce};
 ghost use Rattle.sei_script.specs.declared.line.ScriptLine.{ScriptLine};
 ghost use Rattle.sei_script.specs.declared.line.Said.{Said};
@@ -18,6 +18,11 @@ pub fn lines_are_read_as_spelled()
         → IsSaidOnce script (strip_carriage_return line) said → once script (line_says (context_of script) line) ≡ said }
     ensures only { (script : List ScriptLine) (line : List ℕ) (said : Said)
         → once script (line_says (context_of script) line) ≡ said → IsSaidOnce script (strip_carriage_return line) said }
+{}
+
+/// A text spells one line at most.
+pub fn a_text_spells_one_line()
+    ensures { (text : List ℕ) (one other : ScriptLine) → SpellsLine text one → SpellsLine text other → one ≡ other }
 {}
 
 /// A number of 64 bits is spelled as a report writes it.

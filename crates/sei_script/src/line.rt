@@ -3,6 +3,7 @@ ghost use Rattle.std.specs.Prelude.{◌≡◌, ◌<◌, ◌^◌, ◌-◌};
 
 use super::text::Text;
 use mc_model::Geometry;
+use sei_code::Mode;
 use sei_fault::Planned;
 
 /// The most connections that a script may open.
@@ -13,8 +14,8 @@ pub const CONNECTIONS: u32 = 1;
 pub enum ScriptLine {
     /// How large the server is.
     Geometry { g: Geometry },
-    /// Opens a connection.
-    Open { c: u32 },
+    /// Opens a connection; its mode is plain, the one that a script can spell.
+    Open { c: u32, mode: Mode },
     /// Feeds bytes to a connection.
     Say { c: u32, bytes: Text },
     /// Feeds bytes that are written as hexadecimal digits to a connection.

@@ -12,6 +12,7 @@ use super::plans::plan_of;
 use super::text::Text;
 use super::words::{behind_word, first_exact, first_number, last_exact, word_of};
 use mc_model::Geometry;
+use sei_code::Mode;
 use std::alloc::{AllocError, Global};
 
 fn geometry_numbers(buckets: u64, slots: u64, value_words: u64) -> Said
@@ -63,7 +64,10 @@ fn open_number(context: Context, c: u64) -> Said
     if c >= CONNECTIONS as u64 {
         Said::Wrong(Why::TooManyConnections)
     } else if c == context.opens as u64 {
-        Said::Line(ScriptLine::Open { c: context.opens })
+        Said::Line(ScriptLine::Open {
+            c: context.opens,
+            mode: Mode::Plain,
+        })
     } else {
         Said::Wrong(Why::WrongNumber)
     }

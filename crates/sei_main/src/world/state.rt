@@ -2,6 +2,7 @@ ghost use Rattle.std.specs.Prelude.{◌≡◌, ◌+◌, ◌<◌, ◌≤◌, [], 
 ghost use Rattle.std.specs.Io.KnownBytes.{append_known};
 ghost use Rattle.sei_outside.specs.Faults.{Rose};
 ghost use Rattle.sei_outside.specs.Bytes.{WrotePart};
+ghost use Rattle.sei_code.specs.declared.modes.Mode.{Mode};
 ghost use Rattle.mc_model.specs.Server.{IsValid};
 ghost use Rattle.mc_model.specs.Views.{placed_of, IsSpanOf};
 ghost use Rattle.mc_text.specs.Fits.{HasOwnHash};
@@ -367,7 +368,7 @@ impl<S: Service> World<S> {
     }
 
     fn connect(&mut self) -> Result<(), Memory>
-        ensures { OnOk result (self.new ≡ (led_by (step_by S.answering) self.old (ScriptLine.Open 0)).state) }
+        ensures { OnOk result (self.new ≡ (led_by (step_by S.answering) self.old (ScriptLine.Open 0 Mode.Plain)).state) }
     {
         self.connections.push(Connection::new(self.alloc))?;
         Ok(())
