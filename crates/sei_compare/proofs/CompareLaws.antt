@@ -7,11 +7,13 @@ use Rattle.std.proofs.lemmas.Slice.Eq.{bytes_eq-Decides}
 use Rattle.std.specs.declared.result.Result.{Result}
 use Rattle.std.specs.declared.result.Result.TheVariants.{Ok}
 use Rattle.sei_code.specs.Codes.{message_code}
+use Rattle.sei_code.specs.declared.modes.Mode.{Mode}
+use Rattle.sei_code.specs.declared.modes.Mode.TheVariants.{Plain}
 use Rattle.sei_fault.specs.declared.cause.AbortCause.{AbortCause}
 use Rattle.sei_fault.specs.Tree.{honest}
 use Rattle.sei_log.specs.Changes.{change_of}
 use Rattle.sei_log.specs.declared.log.Change.{Change}
-use Rattle.sei_compare.specs.Comparing.{same_change, word_read, word_at, word_is, word_outcome, same_code, same_reply, is_message}
+use Rattle.sei_compare.specs.Comparing.{same_change, word_read, word_at, word_is, word_outcome, same_code, same_reply, wire_of, is_message}
 
 and_parts : (a b : Bool) → (a && b) ≡ true → (a ≡ true) × (b ≡ true)
 and_parts true b e = (refl, e)
@@ -95,14 +97,14 @@ same_reply-one one first two second e =
 pub same_reply-same : (c : ℕ) (xs : List ℕ) → same_reply (Some c) xs (Some c) xs ≡ true
 same_reply-same c xs = both (c == c) (bytes_eq xs xs) (same_number c) (same_bytes xs)
 
--- what is tested to be the message has its code, and the bytes are those of the pass
-pub is_message-one : (n : ℕ) (code : Option ℕ) (first bytes : List ℕ) → is_message n code first bytes ≡ true →
-    (code ≡ Some (message_code n bytes)) × (bytes ≡ first)
-is_message-one n code first bytes e =
-    let parts = and_parts (same_code code (Some (message_code n bytes))) (bytes_eq bytes first) e in
+-- what is tested to be the message has its code, and the bytes are what goes out for those of the pass
+pub is_message-one : (mode : Mode) (n : ℕ) (code : Option ℕ) (first bytes : List ℕ) → is_message mode n code first bytes ≡ true →
+    (code ≡ Some (message_code n bytes)) × (bytes ≡ wire_of mode n first)
+is_message-one mode n code first bytes e =
+    let parts = and_parts (same_code code (Some (message_code n bytes))) (bytes_eq bytes (wire_of mode n first)) e in
     let one = same_code-one code (Some (message_code n bytes)) parts.0 in
-    (one.1 ∙ sym one.2, (bytes_eq-Decides bytes first).0 parts.1)
+    (one.1 ∙ sym one.2, (bytes_eq-Decides bytes (wire_of mode n first)).0 parts.1)
 
--- bytes with their own code are tested to be the message
-pub is_message-same : (n : ℕ) (xs : List ℕ) → is_message n (Some (message_code n xs)) xs xs ≡ true
+-- bytes with their own code are tested to be the message, in plain mode
+pub is_message-same : (n : ℕ) (xs : List ℕ) → is_message Plain n (Some (message_code n xs)) xs xs ≡ true
 is_message-same n xs = both (message_code n xs == message_code n xs) (bytes_eq xs xs) (same_number (message_code n xs)) (same_bytes xs)

@@ -1,9 +1,11 @@
 -- How what two passes did is compared: each comparison is one test.
-use Rattle.std.specs.Prelude.{ℕ, Bool, true, false, ◌&&◌, ◌==◌, List, Option, Some, None, slice_get}
+use Rattle.std.specs.Prelude.{ℕ, Bool, true, false, ◌&&◌, ◌==◌, List, [], Option, Some, None, slice_get}
 use Rattle.std.specs.Str.{bytes_eq}
 use Rattle.std.specs.declared.result.Result.{Result}
 use Rattle.std.specs.declared.result.Result.TheVariants.{Ok, Err}
 use Rattle.sei_code.specs.Codes.{message_code}
+use Rattle.sei_code.specs.declared.modes.Mode.{Mode}
+use Rattle.sei_code.specs.declared.modes.Mode.TheVariants.{Plain, Coded}
 use Rattle.sei_fault.specs.declared.cause.AbortCause.{AbortCause}
 use Rattle.sei_fault.specs.declared.cause.AbortCause.TheVariants.{Range}
 use Rattle.sei_fault.specs.Question.Question.{Value, Test}
@@ -60,9 +62,15 @@ same_reply one first two second = same_code one two && bytes_eq first second
 abbrev pub codes_tree : Option ℕ → List ℕ → Option ℕ → List ℕ → Tree Bool
 codes_tree one first two second = tested (same_reply one first two second)
 
--- the bytes are those that the pass made, and its code is theirs as the message of this number
-abbrev pub is_message : ℕ → Option ℕ → List ℕ → List ℕ → Bool
-is_message answer code first bytes = same_code code (Some (message_code answer bytes)) && bytes_eq bytes first
+-- what goes out for a reply that is message number `answer` of its connection: in plain mode its bytes alone. No coded
+-- connection is begun yet; the frame of its message will stand in the other line
+abbrev pub wire_of : Mode → ℕ → List ℕ → List ℕ
+wire_of Plain answer reply = reply
+wire_of Coded answer reply = []
 
-abbrev pub wire_tree : ℕ → Option ℕ → List ℕ → List ℕ → Tree Bool
-wire_tree answer code first bytes = tested (is_message answer code first bytes)
+-- the bytes are what goes out for those that the pass made, and its code is theirs as the message of this number
+abbrev pub is_message : Mode → ℕ → Option ℕ → List ℕ → List ℕ → Bool
+is_message mode answer code first bytes = same_code code (Some (message_code answer bytes)) && bytes_eq bytes (wire_of mode answer first)
+
+abbrev pub wire_tree : Mode → ℕ → Option ℕ → List ℕ → List ℕ → Tree Bool
+wire_tree mode answer code first bytes = tested (is_message mode answer code first bytes)

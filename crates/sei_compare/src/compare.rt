@@ -120,8 +120,8 @@ pub fn wire<K: Core>(
     core: &mut K,
 ) -> bool
     requires plain { mode ≡ Mode.Plain }
-    ensures compared { Runs K.gives (wire_tree answer code first.now bytes.now) core.old core.new result }
-    ensures honest { Answered (result ≡ is_message answer code first.now bytes.now) (K.counts core.old) (K.counts core.new) }
+    ensures compared { Runs K.gives (wire_tree mode answer code first.now bytes.now) core.old core.new result }
+    ensures honest { Answered (result ≡ is_message mode answer code first.now bytes.now) (K.counts core.old) (K.counts core.new) }
 {
     match mode {
         Mode::Plain => {

@@ -3,6 +3,7 @@ use Rattle.std.proofs.Common.{◌≡◌, ◌⊎◌, inl, inr, ℕ, zero, suc, �
 use Rattle.std.specs.Prelude.{⊤, if◌then◌else◌, ◌==◌, nat_lt, slice_get}
 use Rattle.std.specs.declared.result.Result.{Result}
 use Rattle.std.specs.declared.result.Result.TheVariants.{Ok, Err}
+use Rattle.sei_code.specs.declared.modes.Mode.TheVariants.{Plain as PlainMode}
 use Rattle.sei_fault.specs.declared.cause.AbortCause.{AbortCause}
 use Rattle.sei_fault.specs.declared.cause.AbortCause.TheVariants.{Gate, Range, Differs, Reply as Replies, Wire as Wires}
 use Rattle.sei_fault.specs.declared.place.Phase.{Phase}
@@ -173,9 +174,9 @@ module _ (g : Given) (now : ℕ) (w : Workspace) (words : List ℕ) where
   keeps Verify index n =
       if_always (Keeps w) (nat_lt index (length w.second_log.items)) (bound (word_at words (slice_get w.second_log.items index)) (word_to w words index)) (verify_copy index w words)
       (always_bound (Keeps w) (word_at words (slice_get w.second_log.items index)) (word_to w words index) (word_keeps index))
-      (if_always (Keeps w) (index == length w.second_log.items) (copy_bytes w words index (reply_of w)) (bound (wire_tree w.sealed.answer w.first.code w.first.bytes.items w.wire.items) (wire_to w words))
+      (if_always (Keeps w) (index == length w.second_log.items) (copy_bytes w words index (reply_of w)) (bound (wire_tree PlainMode w.sealed.answer w.first.code w.first.bytes.items w.wire.items) (wire_to w words))
       (copy_keeps index (reply_of w))
-      (always_bound (Keeps w) (wire_tree w.sealed.answer w.first.code w.first.bytes.items w.wire.items) (wire_to w words)
+      (always_bound (Keeps w) (wire_tree PlainMode w.sealed.answer w.first.code w.first.bytes.items w.wire.items) (wire_to w words)
       (λ same. if_always (Keeps w) same (closes Verify w words Nothing (at Enter 0)) (ends w words (Aborts Wires)) (closes_here Verify Nothing (at Enter 0)) (here words (Aborts Wires)))))
   keeps Enter index n = closes_here Enter WantEnter (at Give 0)
   keeps Give index n = closes_here Give WantGive (at Send 0)

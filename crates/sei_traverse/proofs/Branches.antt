@@ -2,6 +2,7 @@
 use Rattle.std.proofs.Common.{◌≡◌, ℕ, ◌<◌, ◌≤◌, Bool, true, false, List, length, arith, sym, subst}
 use Rattle.std.specs.Prelude.{nat_lt, ◌==◌, slice_get, ◌-◌, if◌then◌else◌}
 use Rattle.std.proofs.lemmas.Bool.Decides.{nat_tests}
+use Rattle.sei_code.specs.declared.modes.Mode.TheVariants.{Plain as PlainMode}
 use Rattle.sei_fault.specs.declared.place.Phase.TheVariants.{Restore, Second}
 use Rattle.sei_fault.specs.Question.{Question, Answer}
 use Rattle.sei_fault.specs.Question.Question.{Test}
@@ -55,10 +56,10 @@ module _ {S : Type 0} (gives : S → (q : Question) → Answer q → S → Type 
 
   pub verify_copies : index ≡ length w.second_log.items → Runs gives (copy_bytes w words index w.second.bytes.items) s t x → Runs gives (verify_copy index w words) s t x
   verify_copies h r =
-      subst (λ (b : Bool). Runs gives (if b then copy_bytes w words index w.second.bytes.items else bound (wire_tree w.sealed.answer w.first.code w.first.bytes.items w.wire.items) (wire_to w words)) s t x)
+      subst (λ (b : Bool). Runs gives (if b then copy_bytes w words index w.second.bytes.items else bound (wire_tree PlainMode w.sealed.answer w.first.code w.first.bytes.items w.wire.items) (wire_to w words)) s t x)
       (sym (same index (length w.second_log.items) h)) r
 
-  pub verify_tests : (index ≡ length w.second_log.items → ⊥) → Runs gives (bound (wire_tree w.sealed.answer w.first.code w.first.bytes.items w.wire.items) (wire_to w words)) s t x → Runs gives (verify_copy index w words) s t x
+  pub verify_tests : (index ≡ length w.second_log.items → ⊥) → Runs gives (bound (wire_tree PlainMode w.sealed.answer w.first.code w.first.bytes.items w.wire.items) (wire_to w words)) s t x → Runs gives (verify_copy index w words) s t x
   verify_tests h r =
-      subst (λ (b : Bool). Runs gives (if b then copy_bytes w words index w.second.bytes.items else bound (wire_tree w.sealed.answer w.first.code w.first.bytes.items w.wire.items) (wire_to w words)) s t x)
+      subst (λ (b : Bool). Runs gives (if b then copy_bytes w words index w.second.bytes.items else bound (wire_tree PlainMode w.sealed.answer w.first.code w.first.bytes.items w.wire.items) (wire_to w words)) s t x)
       (sym (other index (length w.second_log.items) h)) r

@@ -3,6 +3,7 @@ use Rattle.std.proofs.Common.{◌≡◌, ◌≢◌, ℕ, ◌+◌, ◌-◌, Bool,
 use Rattle.std.specs.Prelude.{⊤, if◌then◌else◌, nat_lt, ◌==◌, slice_get}
 use Rattle.std.specs.declared.result.Result.{Result}
 use Rattle.std.specs.declared.result.Result.TheVariants.{Ok, Err}
+use Rattle.sei_code.specs.declared.modes.Mode.TheVariants.{Plain as PlainMode}
 use Rattle.sei_compare.specs.Comparing.{same_change, entry_tree, same_reply, codes_tree, word_at, is_message, wire_tree}
 use Rattle.sei_fault.specs.declared.cause.AbortCause.{AbortCause}
 use Rattle.sei_fault.specs.declared.cause.AbortCause.TheVariants.{Differs, Reply as Replies, Wire as Wires}
@@ -152,9 +153,9 @@ module _ (g : Given) (now : ℕ) (w : Workspace) (words : List ℕ) where
   wire_by lost false = lost_aborts Verify w w (itself w) words Wires
 
   behind_by : w.gate.done ≢ 6 → (index : ℕ) (b : Bool) →
-      StaysLost Verify w (honest (if b then copy_bytes w words index (reply_of w) else bound (wire_tree w.sealed.answer w.first.code w.first.bytes.items w.wire.items) (wire_to w words)))
+      StaysLost Verify w (honest (if b then copy_bytes w words index (reply_of w) else bound (wire_tree PlainMode w.sealed.answer w.first.code w.first.bytes.items w.wire.items) (wire_to w words)))
   behind_by lost index true = copy_by index (reply_of w)
-  behind_by lost index false = wire_by lost (is_message w.sealed.answer w.first.code w.first.bytes.items w.wire.items)
+  behind_by lost index false = wire_by lost (is_message PlainMode w.sealed.answer w.first.code w.first.bytes.items w.wire.items)
 
   verify_by : w.gate.done ≢ 6 → (index : ℕ) (o : _) (b : Bool) → StaysLost Verify w (honest (if b then bound (word_at words o) (word_to w words index) else verify_copy index w words))
   verify_by lost index o true = subst (StaysLost Verify w) (sym (honest_bound (word_at words o) (word_to w words index))) (word_by index (honest (word_at words o)))

@@ -5,6 +5,7 @@ use Rattle.std.specs.declared.result.Result.{Result}
 use Rattle.std.specs.declared.result.Result.TheVariants.{Ok}
 use Rattle.std.proofs.lemmas.Bool.{cases_lt}
 use Rattle.std.proofs.lemmas.Option.{same_Some, slice_get-get_or}
+use Rattle.sei_code.specs.declared.modes.Mode.TheVariants.{Plain as PlainMode}
 use Rattle.sei_code.specs.Codes.{message_code}
 use Rattle.sei_code.specs.Kept.{Kept, empty_kept}
 use Rattle.sei_log.specs.Changes.{change_of}
@@ -325,7 +326,7 @@ module _ (w : Workspace) (words : List ℕ) (index : ℕ) where
   behind first =
       if first
       then copy_bytes w words index w.second.bytes.items
-      else bound (wire_tree w.sealed.answer w.first.code w.first.bytes.items w.wire.items) (wire_to w words)
+      else bound (wire_tree PlainMode w.sealed.answer w.first.code w.first.bytes.items w.wire.items) (wire_to w words)
 
   word_acts : index < length w.second_log.items → word_outcome words (slice_get w.second_log.items index) ≡ Ok true →
       honest (verify_tree index w words) ≡ acted w words (Leads (at Verify (index + 1)))
@@ -342,7 +343,7 @@ module _ (w : Workspace) (words : List ℕ) (index : ℕ) where
   copy_acts h fits =
       verify_past (omega (arith, h)) ∙ ap (λ (b : Bool). honest (behind b)) (same index (length w.second_log.items) h) ∙ copies w words index w.second.bytes.items fits
 
-  wire_closes : length w.second_log.items < index → is_message w.sealed.answer w.first.code w.first.bytes.items w.wire.items ≡ true → w.gate.done ≡ phase_number Verify →
+  wire_closes : length w.second_log.items < index → is_message PlainMode w.sealed.answer w.first.code w.first.bytes.items w.wire.items ≡ true → w.gate.done ≡ phase_number Verify →
       honest (verify_tree index w words) ≡ acted (closed w) words (Leads (at Enter 0))
   wire_closes h e gate =
       verify_past (omega (arith, h))
@@ -359,11 +360,11 @@ word_same before log words i leads rises h =
     ap (λ (o : Option Change). word_outcome words o) here ∙ word_outcome-same words c stands.0
 
 -- a copy of the bytes is the message that their code is for
-message_same : (n m : ℕ) (code : Option ℕ) (bytes wire : List ℕ) → n ≡ m → code ≡ Some (message_code m bytes) → wire ≡ bytes → is_message n code bytes wire ≡ true
+message_same : (n m : ℕ) (code : Option ℕ) (bytes wire : List ℕ) → n ≡ m → code ≡ Some (message_code m bytes) → wire ≡ bytes → is_message PlainMode n code bytes wire ≡ true
 message_same n m code bytes wire number coded copy =
-    ap (λ (k : ℕ). is_message k code bytes wire) number
-    ∙ ap (λ (o : Option ℕ). is_message m o bytes wire) coded
-    ∙ ap (λ (l : List ℕ). is_message m (Some (message_code m bytes)) bytes l) copy
+    ap (λ (k : ℕ). is_message PlainMode k code bytes wire) number
+    ∙ ap (λ (o : Option ℕ). is_message PlainMode m o bytes wire) coded
+    ∙ ap (λ (l : List ℕ). is_message PlainMode m (Some (message_code m bytes)) bytes l) copy
     ∙ is_message-same m bytes
 
 module _ (e : CallContext) (now : ℕ) (w : Workspace) (steps asked time made : ℕ) (end : Machine) (want : w.want ≡ Nothing) (whole : Whole e time made end) (questions : 2 * first_questions e time made ≤ asked) where

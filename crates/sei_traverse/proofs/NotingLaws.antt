@@ -3,6 +3,7 @@ use Rattle.std.proofs.Common.{◌≡◌, inl, inr, ℕ, ◌+◌, ◌-◌, Bool, 
 use Rattle.std.specs.Prelude.{slice_get, if◌then◌else◌, ◌==◌, nat_lt}
 use Rattle.std.specs.declared.result.Result.{Result}
 use Rattle.std.specs.declared.result.Result.TheVariants.{Ok, Err}
+use Rattle.sei_code.specs.declared.modes.Mode.TheVariants.{Plain as PlainMode}
 use Rattle.sei_code.specs.declared.coded.Coded.{Coded}
 use Rattle.sei_fault.specs.declared.cause.AbortCause.{AbortCause}
 use Rattle.sei_fault.specs.declared.cause.AbortCause.TheVariants.{Range as OutOfRange, Differs as Differing}
@@ -167,9 +168,9 @@ module _ (told : Option ℕ) where
     notes_wire words false = Same refl
 
     behind_words : (index : ℕ) (words : List ℕ) (b : Bool) →
-        Always Notes (if b then copy_bytes w words index (reply_of w) else bound (wire_tree w.sealed.answer w.first.code w.first.bytes.items w.wire.items) (wire_to w words))
+        Always Notes (if b then copy_bytes w words index (reply_of w) else bound (wire_tree PlainMode w.sealed.answer w.first.code w.first.bytes.items w.wire.items) (wire_to w words))
     behind_words index words true = notes_copy index words (reply_of w)
-    behind_words index words false = always_any Notes (wire_tree w.sealed.answer w.first.code w.first.bytes.items w.wire.items) (wire_to w words) (λ same. notes_wire words same)
+    behind_words index words false = always_any Notes (wire_tree PlainMode w.sealed.answer w.first.code w.first.bytes.items w.wire.items) (wire_to w words) (λ same. notes_wire words same)
 
     notes_verify : (index : ℕ) (words : List ℕ) (b : Bool) →
         Always Notes (if b then bound (word_at words (slice_get w.second_log.items index)) (word_to w words index) else verify_copy index w words)

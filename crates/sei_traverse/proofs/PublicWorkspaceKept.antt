@@ -5,6 +5,7 @@ use Rattle.std.specs.declared.result.Result.{Result}
 use Rattle.std.specs.declared.result.Result.TheVariants.{Ok, Err}
 use Rattle.std.proofs.lemmas.Bool.{ltb-true}
 use Rattle.std.proofs.lemmas.List.{length-set}
+use Rattle.sei_code.specs.declared.modes.Mode.TheVariants.{Plain as PlainMode}
 use Rattle.sei_pass.specs.declared.spaces.PassSpace.{PassSpace}
 use Rattle.sei_code.specs.Kept.{Kept}
 use Rattle.sei_fault.specs.declared.cause.AbortCause.{AbortCause}
@@ -300,9 +301,9 @@ module _ (k : PassSpace) (parsed : ℕ → Option Parsed) where
     kept_wire words long false = same words long
 
     behind_words : (index : ℕ) (words : List ℕ) → length words ≡ length before → (b : Bool) →
-        Always KeptBy (if b then copy_bytes w words index (reply_of w) else bound (wire_tree w.sealed.answer w.first.code w.first.bytes.items w.wire.items) (wire_to w words))
+        Always KeptBy (if b then copy_bytes w words index (reply_of w) else bound (wire_tree PlainMode w.sealed.answer w.first.code w.first.bytes.items w.wire.items) (wire_to w words))
     behind_words index words long true = kept_copy index words (reply_of w) (omega arith) long
-    behind_words index words long false = always_any KeptBy (wire_tree w.sealed.answer w.first.code w.first.bytes.items w.wire.items) (wire_to w words) (λ b. kept_wire words long b)
+    behind_words index words long false = always_any KeptBy (wire_tree PlainMode w.sealed.answer w.first.code w.first.bytes.items w.wire.items) (wire_to w words) (λ b. kept_wire words long b)
 
     kept_verify : (index : ℕ) (words : List ℕ) → length words ≡ length before → (b : Bool) →
         Always KeptBy (if b then bound (word_at words (slice_get w.second_log.items index)) (word_to w words index) else verify_copy index w words)

@@ -4,6 +4,7 @@ use Rattle.std.specs.Prelude.{⊤, slice_get, if◌then◌else◌, ◌==◌, nat
 use Rattle.std.specs.declared.result.Result.{Result}
 use Rattle.std.specs.declared.result.Result.TheVariants.{Ok, Err}
 use Rattle.std.proofs.lemmas.Bool.{cases_eq, eqb-true, ltb-true}
+use Rattle.sei_code.specs.declared.modes.Mode.TheVariants.{Plain as PlainMode}
 use Rattle.sei_pass.specs.declared.spaces.PassSpace.{PassSpace}
 use Rattle.sei_fault.specs.Counts.{Counts, Answered}
 use Rattle.sei_fault.specs.Question.{Question, Answer, honestly_to}
@@ -209,10 +210,10 @@ wire_up k index w words true = closes_up k w Verify index Verify w words Nothing
 wire_up k index w words false = aborts_up k w Verify index w words Wires (same_made w)
 
 behind_words : (k : PassSpace) (index : ℕ) (w : Workspace) (words : List ℕ) (b : Bool) → (index == length w.second_log.items) ≡ b →
-    Always (Climbs k w Verify index) (if b then copy_bytes w words index (reply_of w) else bound (wire_tree w.sealed.answer w.first.code w.first.bytes.items w.wire.items) (wire_to w words))
+    Always (Climbs k w Verify index) (if b then copy_bytes w words index (reply_of w) else bound (wire_tree PlainMode w.sealed.answer w.first.code w.first.bytes.items w.wire.items) (wire_to w words))
 behind_words k index w words true e = copy_up k index w words (reply_of w) (eqb-true index (length w.second_log.items) e)
 behind_words k index w words false e =
-    always_any (Climbs k w Verify index) (wire_tree w.sealed.answer w.first.code w.first.bytes.items w.wire.items) (wire_to w words) (λ same. wire_up k index w words same)
+    always_any (Climbs k w Verify index) (wire_tree PlainMode w.sealed.answer w.first.code w.first.bytes.items w.wire.items) (wire_to w words) (λ same. wire_up k index w words same)
 
 verify_up : (k : PassSpace) (index : ℕ) (w : Workspace) (words : List ℕ) (b : Bool) → nat_lt index (length w.second_log.items) ≡ b →
     Always (Climbs k w Verify index) (if b then bound (word_at words (slice_get w.second_log.items index)) (word_to w words index) else verify_copy index w words)

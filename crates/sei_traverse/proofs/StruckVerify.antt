@@ -5,6 +5,7 @@ use Rattle.std.specs.declared.result.Result.{Result}
 use Rattle.std.specs.declared.result.Result.TheVariants.{Ok, Err}
 use Rattle.std.proofs.lemmas.Bool.{ltb-false}
 use Rattle.std.proofs.lemmas.Bool.Decides.{nat_tests}
+use Rattle.sei_code.specs.declared.modes.Mode.TheVariants.{Plain as PlainMode}
 use Rattle.sei_code.specs.Kept.{Kept, emptied}
 use Rattle.sei_compare.specs.Comparing.{word_at, word_read, word_outcome, is_message, wire_tree}
 use Rattle.sei_compare.proofs.Public.{word_at-honest, word_outcome-new, is_message-one}
@@ -85,7 +86,7 @@ module _ (e : CallContext) (w : Workspace) (words : List ℕ) (asked more : ℕ)
 
   -- where the copy is the reply once it is made, any answers are well
   fine_behind : (index : ℕ) (b : Bool) → (index == length w.second_log.items) ≡ b → (b ≡ false → w.wire.items ≡ reply_of w) →
-      Always (ActsWell e Verify more) (if b then copy_bytes w words index (reply_of w) else bound (wire_tree w.sealed.answer w.first.code w.first.bytes.items w.wire.items) (wire_to w words))
+      Always (ActsWell e Verify more) (if b then copy_bytes w words index (reply_of w) else bound (wire_tree PlainMode w.sealed.answer w.first.code w.first.bytes.items w.wire.items) (wire_to w words))
   fine_behind index true is wire = fine_copy index (reply_of w)
   fine_behind index false is wire = λ yes. fine_tested (wire refl) yes
 
@@ -95,16 +96,16 @@ module _ (e : CallContext) (w : Workspace) (words : List ℕ) (asked more : ℕ)
   fine_always index false is wire = fine_behind index (index == length w.second_log.items) refl (wire refl)
 
   -- the honest test of the copy says that it is the reply
-  honest_tested : (yes : Bool) → is_message w.sealed.answer w.first.code w.first.bytes.items w.wire.items ≡ yes → ActsWell e Verify more (honest (wire_to w words yes))
+  honest_tested : (yes : Bool) → is_message PlainMode w.sealed.answer w.first.code w.first.bytes.items w.wire.items ≡ yes → ActsWell e Verify more (honest (wire_to w words yes))
   honest_tested true is =
-      let message = is_message-one w.sealed.answer w.first.code w.first.bytes.items w.wire.items is in
+      let message = is_message-one PlainMode w.sealed.answer w.first.code w.first.bytes.items w.wire.items is in
       always_honest (ActsWell e Verify more) (closes Verify w words Nothing (at Enter 0)) (fine_closes (message.1 ∙ outputs))
   honest_tested false is = fine_aborts Wires
 
   honest_behind : (index : ℕ) (b : Bool) →
-      ActsWell e Verify more (honest (if b then copy_bytes w words index (reply_of w) else bound (wire_tree w.sealed.answer w.first.code w.first.bytes.items w.wire.items) (wire_to w words)))
+      ActsWell e Verify more (honest (if b then copy_bytes w words index (reply_of w) else bound (wire_tree PlainMode w.sealed.answer w.first.code w.first.bytes.items w.wire.items) (wire_to w words)))
   honest_behind index true = always_honest (ActsWell e Verify more) (copy_bytes w words index (reply_of w)) (fine_copy index (reply_of w))
-  honest_behind index false = honest_tested (is_message w.sealed.answer w.first.code w.first.bytes.items w.wire.items) refl
+  honest_behind index false = honest_tested (is_message PlainMode w.sealed.answer w.first.code w.first.bytes.items w.wire.items) refl
 
   fine_honest : (index : ℕ) (b : Bool) → ActsWell e Verify more (honest (if b then bound (word_at words (slice_get w.second_log.items index)) (word_to w words index) else verify_copy index w words))
   fine_honest index true = always_honest (ActsWell e Verify more) (bound (word_at words (slice_get w.second_log.items index)) (word_to w words index)) (fine_word index (slice_get w.second_log.items index))

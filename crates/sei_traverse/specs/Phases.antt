@@ -1,7 +1,8 @@
 -- The act of each step outside the two passes.
-use Rattle.std.specs.Prelude.{ℕ, ◌+◌, ◌-◌, ◌%◌, ◌^◌, Bool, ◌==◌, nat_lt, List, [], ◌∷◌, length, max, Option, Some, None, slice_get, if◌then◌else◌}
+use Rattle.std.specs.Prelude.{◌≡◌, ℕ, ◌+◌, ◌-◌, ◌%◌, ◌^◌, Bool, ◌==◌, nat_lt, List, [], ◌∷◌, length, max, Option, Some, None, slice_get, if◌then◌else◌}
 use Rattle.std.specs.declared.result.Result.{Result}
 use Rattle.std.specs.declared.result.Result.TheVariants.{Ok, Err}
+use Rattle.sei_code.specs.declared.modes.Mode.TheVariants.{Plain as PlainMode}
 use Rattle.sei_code.specs.Kept.{emptied}
 use Rattle.mc_model.specs.declared.geometry.Geometry.{Geometry}
 use Rattle.sei_fault.specs.declared.cause.AbortCause.{AbortCause}
@@ -13,9 +14,10 @@ use Rattle.sei_fault.specs.Question.Question.{Value, Written, Test}
 use Rattle.sei_fault.specs.Tree.{Tree, bound}
 use Rattle.sei_fault.specs.Tree.Tree.{Ask}
 use Rattle.sei_stmt.specs.Handling.{refilled}
+use Rattle.sei_pass.specs.declared.given.Sealed.{Sealed}
 use Rattle.sei_pass.specs.Setting.{is_intact}
 use Rattle.sei_restore.specs.Undoing.{Undone, undo_at}
-use Rattle.sei_compare.specs.Comparing.{entry_tree, codes_tree, word_at, wire_tree}
+use Rattle.sei_compare.specs.Comparing.{entry_tree, codes_tree, word_at, wire_of, wire_tree}
 use Rattle.sei_traverse.specs.declared.turned.Want.{Want}
 use Rattle.sei_traverse.specs.declared.turned.Want.TheVariants.{Nothing, Take as WantTake, Enter as WantEnter, Give as WantGive, Send as WantSend}
 use Rattle.sei_traverse.specs.declared.workspace.Ending.TheVariants.{Leads, Refuses, Aborts}
@@ -99,7 +101,15 @@ word_to w words index (Err cause) = ends w words (Aborts cause)
 abbrev pub reply_of : Workspace → List ℕ
 reply_of w = w.second.bytes.items
 
--- the copy is the reply, its first byte the low eight bits of what the core stores; an empty reply has an empty copy
+-- what goes out for a reply to this sealed call: each connection is a plain one
+abbrev pub wire_for : Sealed → List ℕ → List ℕ
+wire_for sealed reply = wire_of PlainMode sealed.answer reply
+
+-- the copy for the wire is what goes out for this reply
+abbrev pub IsCopy : Workspace → List ℕ → Type 0
+IsCopy w reply = w.wire.items ≡ wire_for w.sealed reply
+
+-- the copy is what goes out for the reply, its first byte the low eight bits of what the core stores; if that is empty, so is the copy
 abbrev pub copy_bytes : Workspace → List ℕ → ℕ → List ℕ → Tree Acted
 copy_bytes w words index [] = ends (record w { wire = emptied w.wire }) words (Leads (at Verify (index + 1)))
 copy_bytes w words index (byte ∷ bytes) =
@@ -109,10 +119,10 @@ abbrev pub wire_to : Workspace → List ℕ → Bool → Tree Acted
 wire_to w words same = if same then closes Verify w words Nothing (at Enter 0) else ends w words (Aborts Wires)
 
 abbrev pub copy_tree : ℕ → Workspace → List ℕ → Tree Acted
-copy_tree index w words = copy_bytes w words index (reply_of w)
+copy_tree index w words = copy_bytes w words index (wire_for w.sealed (reply_of w))
 
 abbrev pub copy_test : Workspace → List ℕ → Tree Acted
-copy_test w words = bound (wire_tree w.sealed.answer w.first.code w.first.bytes.items w.wire.items) (wire_to w words)
+copy_test w words = bound (wire_tree PlainMode w.sealed.answer w.first.code w.first.bytes.items w.wire.items) (wire_to w words)
 
 abbrev pub verify_copy : ℕ → Workspace → List ℕ → Tree Acted
 verify_copy index w words = if index == length w.second_log.items then copy_tree index w words else copy_test w words

@@ -6,7 +6,7 @@ use Rattle.sei_stmt.specs.Machine.{Machine}
 use Rattle.sei_traverse.specs.Comes.{Agrees}
 use Rattle.sei_traverse.specs.CallContext.{CallContext, Whole}
 use Rattle.sei_traverse.specs.OnWay.{OnWay}
-use Rattle.sei_traverse.specs.Phases.{reply_of}
+use Rattle.sei_traverse.specs.Phases.{reply_of, IsCopy}
 use Rattle.sei_traverse.specs.State.{TraversalState}
 use Rattle.sei_traverse.specs.Unstruck.{first_questions}
 
@@ -14,7 +14,7 @@ use Rattle.sei_traverse.specs.Unstruck.{first_questions}
 abbrev pub IfUnstruckIn : Phase → CallContext → TraversalState → Option (List ℕ) → Counts → Counts → Type 0 → Type 0
 IfUnstruckIn phase e t lent begin now Holds = t.workspace.place.phase ≡ phase → OnWay e t lent begin now → now.struck ≡ begin.struck → Holds
 
--- the reply and the copy for the wire are the output of an honest run, which is by the noted time where one was noted, and
+-- the reply is the output of an honest run, and the copy for the wire what goes out for it, which is by the noted time where one was noted, and
 -- twice as many questions were asked as its own weigh, with the test behind Halt that closes its phase
 pub record HasReply (e : CallContext) (t : TraversalState) (begin now : Counts) : Type 0 where
   pub time : ℕ
@@ -23,7 +23,7 @@ pub record HasReply (e : CallContext) (t : TraversalState) (begin now : Counts) 
   pub whole : Whole e time made end
   pub noted : Agrees t.workspace.notes.now time
   pub reply : reply_of t.workspace ≡ end.bytes.items
-  pub wire : t.workspace.wire.items ≡ end.bytes.items
+  pub wire : IsCopy t.workspace end.bytes.items
   pub twice : now.asked < 2 ^ 128 - 1 → begin.asked + 2 * first_questions e time made ≤ now.asked
 
 -- and the words that are lent are those that it leaves

@@ -21,7 +21,7 @@ use Rattle.sei_traverse.specs.Alike.{AlikeAt, AlikeLogs}
 use Rattle.sei_traverse.specs.Comes.{renoted, Comes}
 use Rattle.sei_traverse.specs.CallContext.{CallContext, first_setting, first_start, Follows, Whole}
 use Rattle.sei_traverse.specs.PassActs.{pass_of, machine_in, asked_behind}
-use Rattle.sei_traverse.specs.Phases.{reply_of}
+use Rattle.sei_traverse.specs.Phases.{reply_of, IsCopy}
 use Rattle.sei_traverse.specs.Given.{given_of, setting_in}
 use Rattle.sei_traverse.specs.Trusted.{PassesGuard, second_setting}
 use Rattle.sei_traverse.specs.Unstruck.{FirstIsNew, SecondIsNew, FirstIsDone, first_questions}
@@ -189,7 +189,7 @@ pub record VerifyStruck (e : CallContext) (w : Workspace) (words : List ℕ) (as
 
 pub record HasCopy (e : CallContext) (w : Workspace) (words : List ℕ) (asked : ℕ) : Type 0 where
   pub answers : IsHonestResult e w words asked
-  pub wire : w.wire.items ≡ reply_of w
+  pub wire : IsCopy w (reply_of w)
 
 pub record HasCopyOfSome (e : CallContext) (w : Workspace) (asked : ℕ) : Type 0 where
   pub words : List ℕ

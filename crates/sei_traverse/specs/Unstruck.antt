@@ -14,7 +14,7 @@ use Rattle.sei_pass.specs.State.{new_pass}
 use Rattle.sei_traverse.specs.declared.turned.Want.{Want}
 use Rattle.sei_traverse.specs.declared.turned.Want.TheVariants.{Nothing, Take as WantTake, Enter as WantEnter, Give as WantGive}
 use Rattle.sei_traverse.specs.declared.workspace.Workspace.{Workspace}
-use Rattle.sei_traverse.specs.Phases.{send_want}
+use Rattle.sei_traverse.specs.Phases.{send_want, IsCopy}
 use Rattle.sei_traverse.specs.Acts.{at}
 use Rattle.sei_pass.specs.declared.given.Which.TheVariants.{Making, Reading}
 use Rattle.sei_traverse.specs.PassActs.{pass_of, machine_in}
@@ -164,9 +164,9 @@ pub record InCompare (e : CallContext) (w : Workspace) (lent : Option (List ℕ)
   pub index : w.place.index ≤ length end.log.items
   pub number : steps ≤ before_compare made (length end.log.items) + w.place.index
 
--- behind the last changed word, the copy for the wire is made
+-- after the last changed word, the copy for the wire is made
 abbrev pub CopyAt : Workspace → ℕ → List ℕ → Type 0
-CopyAt w k bytes = w.place.index ≡ k + 1 → w.wire.items ≡ bytes
+CopyAt w k reply = w.place.index ≡ k + 1 → IsCopy w reply
 
 pub record InVerify (e : CallContext) (w : Workspace) (lent : Option (List ℕ)) (steps asked : ℕ) : Type 0 where
   pub is : IsOf e w Verify
@@ -178,7 +178,7 @@ pub record InVerify (e : CallContext) (w : Workspace) (lent : Option (List ℕ))
   pub copy : CopyAt w (length end.log.items) end.bytes.items
   pub number : steps ≤ before_verify made (length end.log.items) + w.place.index
 
--- all is compared: the copy for the wire is the reply
+-- all is compared: the copy for the wire is what goes out for the reply
 pub record InEnter (e : CallContext) (w : Workspace) (lent : Option (List ℕ)) (steps asked : ℕ) : Type 0 where
   pub is : IsOf e w Enter
   pub time : ℕ
@@ -186,7 +186,7 @@ pub record InEnter (e : CallContext) (w : Workspace) (lent : Option (List ℕ)) 
   pub end : Machine
   pub both : InBoth e w lent time made end asked
   pub index : w.place.index ≡ 0
-  pub copy : w.wire.items ≡ end.bytes.items
+  pub copy : IsCopy w end.bytes.items
   pub number : steps ≤ before_enter made (length end.log.items)
 
 pub record InGive (e : CallContext) (w : Workspace) (lent : Option (List ℕ)) (steps asked : ℕ) : Type 0 where
@@ -196,7 +196,7 @@ pub record InGive (e : CallContext) (w : Workspace) (lent : Option (List ℕ)) (
   pub end : Machine
   pub both : InBoth e w lent time made end asked
   pub index : w.place.index ≡ 0
-  pub copy : w.wire.items ≡ end.bytes.items
+  pub copy : IsCopy w end.bytes.items
   pub number : steps ≤ before_enter made (length end.log.items) + 1
 
 -- the reply is made, and the copy for the wire
@@ -204,7 +204,7 @@ pub record HasOutput (e : CallContext) (w : Workspace) (time made : ℕ) (end : 
   pub whole : Whole e time made end
   pub second : SecondIsDone e w end
   pub notes : w.notes ≡ end.notes
-  pub copy : w.wire.items ≡ end.bytes.items
+  pub copy : IsCopy w end.bytes.items
   pub questions : 2 * first_questions e time made ≤ asked
 
 -- as long as words are lent, they are still those
