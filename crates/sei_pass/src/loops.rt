@@ -1,5 +1,5 @@
 //! Many steps of a pass.
-ghost use Rattle.std.specs.Prelude.{◌≡◌, ◌+◌, ◌<◌, ◌^◌};
+ghost use Rattle.std.specs.Prelude.{◌≡◌, ◌+◌, ◌<◌, ◌≤◌, ◌^◌};
 ghost use Rattle.sei_log.specs.declared.notes.Notes.{Notes};
 ghost use Rattle.sei_stmt.specs.Machine.{Setting};
 ghost use Rattle.sei_words.specs.LentBucket.{words_of, place_of};
@@ -137,6 +137,7 @@ impl Frame {
             (record { machine = machine_at self.old (words_of (L.lent_bucket lent.old)) log.old notes; index = from; core = core.old })
             result.exit (machine_at self.new (words_of (L.lent_bucket lent.new)) log.new notes) core.new }
         ensures after { HasIndexAfter result.exit result.index }
+        ensures few { result.before ≤ budget }
         ensures lent { place_of (L.lent_bucket lent.new) ≡ place_of (L.lent_bucket lent.old) }
     {
         let first = self.made;

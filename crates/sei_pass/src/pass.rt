@@ -263,6 +263,7 @@ impl Pass {
             (record { machine = machine_of self.old (words_of (L.lent_bucket lent.old)) log.old notes; index = from; core = core.old })
             result.exit (machine_of self.new (words_of (L.lent_bucket lent.new)) log.new notes) core.new }
         ensures after { HasIndexAfter result.exit result.index }
+        ensures few { result.before ≤ self.old.space.budget }
         ensures lent { place_of (L.lent_bucket lent.new) ≡ place_of (L.lent_bucket lent.old) }
         ensures space { self.new.space ≡ self.old.space }
         ensures pass { IsPass self.new }

@@ -211,6 +211,7 @@ impl Workspace {
         ensures run { (steps : ℕ) → steps < 2 ^ 64 →
             RunsOn K.gives K.counts (C.told clock.now) (H.behavior hands.now) input.now result.before
             (on (begun_at self.old space.now steps) (L.lent_bucket lent.old) core.old) (on (left_at self.new space.now steps result) (L.lent_bucket lent.new) core.new) result.turned }
+        ensures few { result.before ≤ space.now.budget }
         ensures stays { Stays self.old self.new }
     {
         self.want = Want::Nothing;
@@ -250,6 +251,7 @@ impl Workspace {
         ensures run { (steps : ℕ) → steps < 2 ^ 64 →
             RunsOn K.gives K.counts (C.told clock.now) (H.behavior hands.now) input.now result.before
             (on (begun_at self.old space.now steps) (L.lent_bucket lent.old) core.old) (on (left_at self.new space.now steps result) (L.lent_bucket lent.new) core.new) result.turned }
+        ensures few { result.before ≤ space.now.budget }
         ensures stays { Stays self.old self.new }
     {
         self.want = Want::Nothing;
@@ -286,6 +288,7 @@ impl Workspace {
         ensures run { (steps : ℕ) → steps < 2 ^ 64 →
             RunsOn K.gives K.counts (C.told clock.now) (H.behavior hands.now) input.now result.before
             (on (begun_at self.old space.now steps) (L.lent_bucket lent.old) core.old) (on (left_at self.new space.now steps result) (L.lent_bucket lent.new) core.new) result.turned }
+        ensures few { result.before ≤ space.now.budget }
         ensures stays { Stays self.old self.new }
     {
         let state = self.step_alone(hands, input, space, lent, core, clock);
@@ -317,6 +320,7 @@ impl Workspace {
         ensures run { (steps : ℕ) → steps < 2 ^ 64 →
             RunsOn K.gives K.counts (C.told clock.now) (H.behavior hands.now) input.now result.before
             (on (begun_at self.old space.now steps) (L.lent_bucket lent.old) core.old) (on (left_at self.new space.now steps result) (L.lent_bucket lent.new) core.new) result.turned }
+        ensures few { result.before ≤ space.now.budget }
         ensures stays { Stays self.old self.new }
     {
         match self.place.phase {

@@ -21,4 +21,4 @@ returns-in-Some-clause-turned g c =
     let words = words_of (g.L.Lent.lent_bucket c.args.lent.now) in
     let told = g.C.Clock.told c.args.clock.now in
     let v : Workspace = record c.args.self.now { want = Nothing } in
-    at_site g.K.Core.gives told given v words (Some c.in-Some.act) (site_of given.behavior v) _ _ _ c.in-Some.ensures.act c.step_result.ensures.turned
+    at_site g.K.Core.gives told given v words (Some c.in-Some.act) (site_of given.behavior v) _ _ _ c.in-Some.ensures.act c.make_act.ensures.turned
