@@ -1,5 +1,5 @@
 -- What holds of chains of steps.
-use Rattle.std.proofs.Common.{ℕ, zero, suc, ◌≤◌, ap, subst, sym, refl, arith}
+use Rattle.std.proofs.Common.{◌≡◌, ℕ, zero, suc, ◌+◌, ◌≤◌, ap, subst, sym, refl, arith}
 use Rattle.sei_fault.specs.Chain.{Chain}
 
 -- what each step keeps, a chain keeps
@@ -11,6 +11,15 @@ chain_keeps Step P (suc n) x z keeps (y, c, r) p = keeps y z r (chain_keeps Step
 pub chain_maps : {X Y : Type 0} (Step : X → X → Type 0) (Other : Y → Y → Type 0) (f : X → Y) (n : ℕ) (x z : X) → ((a b : X) → Step a b → Other (f a) (f b)) → Chain Step n x z → Chain Other n (f x) (f z)
 chain_maps Step Other f zero x z maps e = ap f e
 chain_maps Step Other f (suc n) x z maps (y, c, r) = (f y, chain_maps Step Other f n x y maps c, maps y z r)
+
+-- one chain after another
+pub chain_joins : {X : Type 0} (Step : X → X → Type 0) (n m : ℕ) (x y z : X) → Chain Step n x y → Chain Step m y z → Chain Step (n + m) x z
+chain_joins Step n zero x y z c e =
+    let same : n ≡ n + 0 = omega arith in
+    subst (λ k. Chain Step k x z) same (subst (λ w. Chain Step n x w) (sym e) c)
+chain_joins Step n (suc m) x y z c (w, d, r) =
+    let same : suc (n + m) ≡ n + suc m = omega arith in
+    subst (λ k. Chain Step k x z) same (w, chain_joins Step n m x y w c d, r)
 
 -- another beginning, from which each first step goes too
 pub chain_begins : {X : Type 0} (Step : X → X → Type 0) (n : ℕ) (v w z : X) → ((y : X) → Step v y → Step w y) → Chain Step (suc n) v z → Chain Step (suc n) w z

@@ -17,6 +17,8 @@ use sei_code::WordList;
 /// As many words as the longest key takes.
 const KEY_WORDS: usize = 32;
 
+const ZEROS: [u64; KEY_WORDS] = [0; KEY_WORDS];
+
 fn verb_number(verb: Verb) -> u64
     ensures { result ≡ verb_number verb }
 {
@@ -94,9 +96,12 @@ fn push_zeros(count: usize, into: &mut WordList)
     requires { length into.old.items + count ≤ into.old.room }
     ensures { into.new ≡ extended into.old (replicate count 0) }
 {
-    for _ in 0..count {
-        into.push(0);
+    let mut left = count;
+    while left > KEY_WORDS {
+        into.extend_from_slice(&ZEROS);
+        left -= KEY_WORDS;
     }
+    into.extend_from_slice(&ZEROS[..left]);
 }
 
 /// Fills the list, which is emptied first, with the input words of a call. Those of its block are

@@ -5,4 +5,5 @@ pub mod RoomLaws
 pub mod StepLaws
 pub mod LoopLaws
 pub mod LoopRooms
+pub mod WholePass
 pub mod Public

@@ -13,7 +13,7 @@ use Rattle.sei_stmt.specs.Handling.{Behavior}
 use Rattle.sei_stmt.specs.Machine.{Machine, Setting, Outcome, After, one_made}
 use Rattle.sei_stmt.specs.Machine.Outcome.{Bad}
 use Rattle.sei_stmt.specs.Statements.{statement_tree, count_if, found_tree, step_tree}
-use Rattle.sei_stmt.proofs.Public.{on_way}
+use Rattle.sei_stmt.proofs.Public.{on_way_at}
 use Rattle.sei_pass.specs.declared.given.Sealed.{Sealed}
 use Rattle.sei_pass.specs.declared.given.Which.{Which}
 use Rattle.sei_pass.specs.declared.given.Which.TheVariants.{Making}
@@ -30,8 +30,8 @@ stepped gives counts lawful told setting index old new o s t now answer runs = r
   now = now;
   answer = answer;
   runs = runs;
-  on_way = λ start n begin w.
-      on_way (setting now) start old index n (record { machine = new; outcome = o }) begin (counts s) (counts t) w
+  on_way = λ time agrees start n begin w.
+      on_way_at (setting now) start old index n time (record { machine = new; outcome = o }) begin (counts s) (counts t) agrees w
       (counted_runs gives counts lawful (step_tree (setting now) index old) s t (record { machine = new; outcome = o }) runs);
 }
 

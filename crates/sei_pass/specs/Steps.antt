@@ -8,8 +8,9 @@ use Rattle.sei_log.specs.declared.log.Change.{Change}
 use Rattle.sei_log.specs.declared.notes.Notes.{Notes}
 use Rattle.sei_stmt.specs.declared.stmt.Stmt.{Stmt}
 use Rattle.sei_stmt.specs.declared.stmt.Stmt.TheVariants.{Now}
-use Rattle.sei_stmt.specs.Machine.{Machine, Setting, Outcome}
-use Rattle.sei_stmt.specs.Machine.Outcome.{Next}
+use Rattle.sei_stmt.specs.Comes.{at_time, Agrees}
+use Rattle.sei_stmt.specs.Machine.{Machine, Setting, Outcome, After}
+use Rattle.sei_stmt.specs.Machine.Outcome.{Next, Halted}
 use Rattle.sei_stmt.specs.Statements.{step_tree}
 use Rattle.sei_stmt.specs.Honest.{IsOnWay}
 use Rattle.sei_pass.specs.declared.given.Which.{Which}
@@ -47,6 +48,26 @@ pub record Stepped {S : Type 0} (gives : S → (q : Question) → Answer q → S
   pub now : ℕ
   pub answer : IsAnswer told now
   pub runs : Runs gives (step_tree (setting now) index old) s t (record { machine = new; outcome = o })
-  pub on_way : (start : Machine) (n : ℕ) (begin : Counts) →
-      IsOnWay (setting now) start n (record { machine = old; outcome = Next index }) begin (counts s) →
-      IsOnWay (setting now) start (suc n) (record { machine = new; outcome = o }) begin (counts t)
+  -- at each time that the notes don't speak against
+  pub on_way : (time : ℕ) → Agrees new.notes.now time → (start : Machine) (n : ℕ) (begin : Counts) →
+      IsOnWay (at_time (setting now) time) start n (record { machine = old; outcome = Next index }) begin (counts s) →
+      IsOnWay (at_time (setting now) time) start (suc n) (record { machine = new; outcome = o }) begin (counts t)
+
+-- where a pass stands and how its last statement ended, and its core
+pub record PassPoint (S : Type 0) : Type 0 where
+  pub after : After
+  pub core : S
+
+-- a step from a point where the pass goes on, whatever the clock tells, with notes that don't speak against this time
+pub record StepsAt {S : Type 0} (gives : S → (q : Question) → Answer q → S → Type 0) (counts : S → Counts) (told : Option ℕ) (g : Setting) (time : ℕ) (x y : PassPoint S) : Type 0 where
+  pub index : ℕ
+  pub goes : x.after.outcome ≡ Next index
+  pub step : Stepped gives counts told (at_time g) index x.after.machine y.after.machine y.after.outcome x.core y.core
+  pub agrees : Agrees y.after.machine.notes.now time
+
+-- before the first statement
+abbrev pub begun_pass : {S : Type 0} → Machine → S → PassPoint S
+begun_pass start core = record { after = record { machine = start; outcome = Next 0 }; core = core }
+
+abbrev pub halted_pass : {S : Type 0} → Machine → S → PassPoint S
+halted_pass end core = record { after = record { machine = end; outcome = Halted }; core = core }

@@ -7,6 +7,7 @@ mod answers;
 mod arms;
 mod frame;
 mod given;
+mod laws;
 mod loops;
 mod memory;
 mod output;
@@ -20,6 +21,7 @@ mod tests;
 
 pub use frame::PassStep;
 pub use given::{Given, Sealed, Which};
+pub use laws::whole_passes_are_honest;
 pub use loops::{Exit, FirstStep, Ran, SecondStep};
 pub use pass::Pass;
 pub use slots::Slots;

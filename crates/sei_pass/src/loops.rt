@@ -1,5 +1,5 @@
 //! Many steps of a pass.
-ghost use Rattle.std.specs.Prelude.{◌≡◌, ◌+◌, ◌<◌, ◌^◌};
+ghost use Rattle.std.specs.Prelude.{◌≡◌, ◌+◌, ◌<◌, ◌≤◌, ◌^◌};
 ghost use Rattle.sei_words.specs.LentBucket.{place_of};
 ghost use Rattle.sei_pass.specs.Loop.{FrameLeads, FrameRuns, HasIndexAfter, IfOut, led_to};
 ghost use Rattle.sei_pass.specs.Work.{work};
@@ -131,6 +131,7 @@ impl Frame {
         ensures ran { FrameRuns K.gives L.lent_bucket table.now budget phase from result
             (work self.old lent.old log.old core.old) (work self.new lent.new log.new core.new) }
         ensures after { HasIndexAfter result.exit result.index }
+        ensures few { result.before ≤ budget }
         ensures lent { place_of (L.lent_bucket lent.new) ≡ place_of (L.lent_bucket lent.old) }
     {
         let first = self.made;

@@ -239,6 +239,7 @@ impl Pass {
         ensures ran { PassRuns K.gives L.lent_bucket (H.behavior hands.now) phase from result
             (work self.old lent.old log.old core.old) (work self.new lent.new log.new core.new) }
         ensures after { HasIndexAfter result.exit result.index }
+        ensures few { result.before ≤ self.old.space.budget }
         ensures lent { place_of (L.lent_bucket lent.new) ≡ place_of (L.lent_bucket lent.old) }
         ensures space { self.new.space ≡ self.old.space }
         ensures pass { IsPass self.new }

@@ -24,7 +24,8 @@ asked_one : (g : Setting) (start m : Machine) (i n : ℕ) →
     after g start n ≡ record { machine = m; outcome = Next i } → asked_after g start (suc n) ≡ asked_after g start n + questions (step_tree g i m)
 asked_one g start m i n e = ap (λ x. asked_after g start n + asked_in g x.machine x.outcome) e
 
-step_split : (g : Setting) (start m : Machine) (i n : ℕ) (x : After) (b c d : Counts) (once : Type 0) →
+-- one step more, split by what struck in it
+pub step_split : (g : Setting) (start m : Machine) (i n : ℕ) (x : After) (b c d : Counts) (once : Type 0) →
     IsOnWay g start n (record { machine = m; outcome = Next i }) b c → (d.asked < 2 ^ 128 - 1 → c.asked ≤ d.asked) →
     Split x (honest (step_tree g i m)) once (questions (step_tree g i m)) c d → IsOnWay g start (suc n) x b d
 step_split g start m i n x b c d once w le (Clean p r q) = record {

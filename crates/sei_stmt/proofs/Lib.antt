@@ -13,4 +13,5 @@ pub mod PublicEffects
 pub mod Relog
 pub mod WeightLaws
 pub mod Invariant
+pub mod PublicTimes
 pub mod Public

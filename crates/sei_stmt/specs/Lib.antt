@@ -13,3 +13,4 @@ pub mod Programs
 pub mod Written
 pub mod Touch
 pub mod Weights
+pub mod Comes

@@ -36,7 +36,8 @@ use Rattle.sei_traverse.specs.Unstruck.{IsOf, SecondIsNew, FirstRuns, InFirst, I
 use Rattle.sei_traverse.proofs.Closes.{closed, closes_in_step, pass_behind, pass_behind}
 use Rattle.sei_traverse.proofs.GoesOn.{GoesOn}
 use Rattle.sei_traverse.proofs.NoteLaws.{repeats, repeats_asked}
-use Rattle.sei_traverse.proofs.TimeLaws.{timeless_again, after_again, weighed_after_again, within_clock, agrees_on, comes_on, goes_on, Stands, ends_so}
+use Rattle.sei_traverse.proofs.TimeLaws.{after_again, weighed_after_again, within_clock, agrees_on, comes_on, goes_on, Stands, ends_so}
+use Rattle.sei_stmt.proofs.Public.{timeless_again}
 
 -- Both passes.
 

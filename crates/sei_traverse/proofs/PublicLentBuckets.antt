@@ -1,7 +1,7 @@
 -- What is left of a lent bucket whose words have changed.
 use Rattle.std.proofs.Common.{◌≡◌, ℕ, List, [], ◌∷◌, length, Option, Some, None, refl, sym, ap, ◌∙◌, arith}
 use Rattle.mc_model.specs.declared.geometry.Geometry.{Geometry}
-use Rattle.sei_words.specs.LentBucket.{Place, words_of, bucket_of, place_of}
+use Rattle.sei_words.specs.LentBucket.{Place, words_of, bucket_of, place_of, IsOf}
 use Rattle.sei_words.specs.Words.{BucketWords}
 
 -- what is left of a lent bucket
@@ -35,3 +35,12 @@ left_is (Some a) (Some b) e =
     let back : Option Place → Place = λ o. elim o [ None ↦ record { bucket = a.bucket; geometry = a.geometry } | Some x ↦ x ] in
     let make : ℕ → Geometry → Option BucketWords = λ n g. Some (record { words = b.words; bucket = n; geometry = g }) in
     ap (λ n. make n a.geometry) (sym (ap (λ o. (back o).bucket) e)) ∙ ap (λ g. make b.bucket g) (sym (ap (λ o. (back o).geometry) e))
+
+-- at the same place it is laid out by the same geometry
+pub laid_out_as : (g : Geometry) (lent_bucket left : Option BucketWords) → place_of left ≡ place_of lent_bucket → IsOf g lent_bucket → IsOf g left
+laid_out_as g None None e h = h
+laid_out_as g None (Some b) e h = absurd cc
+laid_out_as g (Some a) None e h = absurd cc
+laid_out_as g (Some a) (Some b) e h =
+    let back : Option Place → Geometry = λ o. elim o [ None ↦ b.geometry | Some x ↦ x.geometry ] in
+    ap back e ∙ h

@@ -7,7 +7,7 @@ use Rattle.sei_fault.specs.Counts.{Counts, Answered}
 use Rattle.sei_fault.specs.declared.place.Phase.{Phase}
 use Rattle.sei_fault.specs.declared.place.Phase.TheVariants.{Guard, Take, First, Restore, Second, Compare, Verify, Enter, Give, Send, Done}
 use Rattle.sei_fault.specs.Question.{Question, Answer, honestly_to}
-use Rattle.sei_fault.proofs.PublicChains.{chain_keeps, chain_relates, chain_isolates}
+use Rattle.sei_fault.proofs.PublicChains.{chain_keeps, chain_joins, chain_relates, chain_isolates}
 use Rattle.sei_words.specs.LentBucket.{words_of, bucket_of, place_of}
 use Rattle.sei_words.specs.Words.{BucketWords}
 use Rattle.sei_traverse.specs.declared.turned.State.{State}
@@ -22,7 +22,7 @@ use Rattle.sei_traverse.specs.FaultInvariant.{FaultInvariant, LendsWanted, Isola
 use Rattle.sei_traverse.specs.Noting.{NotesTime}
 use Rattle.sei_traverse.specs.Noting.NotesTime.{Same}
 use Rattle.sei_traverse.specs.OnWay.{lent_words, Lends, LendsBucketOf, TellsAs, OnWay, OnWayAfter, StaysOnWay}
-use Rattle.sei_traverse.specs.Running.{On, Makes, Quiet, RunsOn}
+use Rattle.sei_traverse.specs.Running.{On, Makes, quiet, Quiet, RunsOn}
 use Rattle.sei_traverse.specs.Given.{given_of, bucket_or_zero}
 use Rattle.sei_stmt.specs.Handling.{Behavior}
 use Rattle.sei_traverse.specs.State.{TraversalState, IsTraversal}
@@ -112,10 +112,14 @@ module _ {S : Type 0} (gives : S → (q : Question) → Answer q → S → Type 
   abbrev IsRun : ℕ → On S → On S → Turned → Type 0
   IsRun = RunsOn gives counts told behavior input
 
+  -- a run whose last step wants nothing, and another one after it
+  pub runs_join : (n m : ℕ) (x y z : On S) (t : Turned) → RunsOn gives counts told behavior input n x y quiet → RunsOn gives counts told behavior input m y z t → RunsOn gives counts told behavior input (suc n + m) x z t
+  runs_join n m x y z t r q = record { last = q.last; chain = chain_joins IsQuiet (suc n) m x y q.last (r.last, r.chain, r.makes) q.chain; makes = q.makes }
+
   -- what goes from each step to the next, goes over a run
   pub run_relates : (Relation : On S → On S → Type 0) (n : ℕ) (x z : On S) (t : Turned) → Relation x x → ((a b : On S) (s : Turned) → Makes gives counts told behavior input a b s → Relation x a → Relation x b) →
       RunsOn gives counts told behavior input n x z t → Relation x z
-  run_relates Relation n x z t here on r = on r.last z t r.makes (chain_relates IsQuiet Relation n x r.last here (λ a b q. on a b (record { want = Nothing; state = Went }) q) r.chain)
+  run_relates Relation n x z t here on r = on r.last z t r.makes (chain_relates IsQuiet Relation n x r.last here (λ a b q. on a b quiet q) r.chain)
 
   pub run_sealed : (n : ℕ) (x z : On S) (t : Turned) → RunsOn gives counts told behavior input n x z t → z.traversal.workspace.sealed ≡ x.traversal.workspace.sealed
   run_sealed n x z t = run_relates (λ a b. b.traversal.workspace.sealed ≡ a.traversal.workspace.sealed) n x z t refl (λ a b s m e. m.sealed ∙ e)
@@ -172,7 +176,7 @@ module _ {S : Type 0} (gives : S → (q : Question) → Answer q → S → Type 
 
     pub run_within : (begin : Counts) (n : ℕ) (x z : On S) (t : Turned) → RunsOn gives counts told behavior input n x z t → IsTraversal x.traversal → StepsWithin x.traversal begin (counts x.core) → StepsAfter z.traversal begin (counts z.core) t.state
     run_within begin n x z t r is within =
-        let last : IsWithin begin r.last = chain_keeps IsQuiet (IsWithin begin) n x r.last (λ a b q h. (q.rooms, makes_within begin a b (record { want = Nothing; state = Went }) q h.0 h.1)) r.chain (is, within) in
+        let last : IsWithin begin r.last = chain_keeps IsQuiet (IsWithin begin) n x r.last (λ a b q h. (q.rooms, makes_within begin a b quiet q h.0 h.1)) r.chain (is, within) in
         makes_within begin r.last z t r.makes last.0 last.1
 
     module _ (e : CallContext) (begin : Counts) (same_behavior : e.behavior ≡ behavior) (same_input : e.input ≡ input) (tells : TellsAs e.clock told) where
@@ -188,7 +192,7 @@ module _ {S : Type 0} (gives : S → (q : Question) → Answer q → S → Type 
           (isolates_one gives counts law told e begin a.traversal b.traversal a.lent b.lent s.state a.core b.core behavior input same_behavior same_input m.turned m.lent m.space m.steps m.sealed trusted tells known.0 known.1 few)
 
       quiet_known : IsTrusted e → (a b : On S) → IsQuiet a b → (counts b.core).struck ≤ begin.struck + 1 → IsKnown a → IsKnown b
-      quiet_known trusted a b q few known = let i = makes_isolated trusted a b (record { want = Nothing; state = Went }) q few known in (i.lends refl, i.goes)
+      quiet_known trusted a b q few known = let i = makes_isolated trusted a b quiet q few known in (i.lends refl, i.goes)
 
       pub run_isolated : (n : ℕ) (x z : On S) (t : Turned) → IsTrusted e → (r : RunsOn gives counts told behavior input n x z t) → LendsWanted x.traversal.workspace x.lent → FaultInvariant e x.traversal (lent_words x.lent) begin (counts x.core) →
           (counts z.core).struck ≤ begin.struck + 1 → Isolates e r.last.traversal z.traversal r.last.lent z.lent begin (counts z.core) t.want t.state
@@ -212,7 +216,7 @@ module _ {S : Type 0} (gives : S → (q : Question) → Answer q → S → Type 
           let before = chain_stepped trusted wants n x y c (omega (arith, q.struck, few)) known steps in (
             quiet_known trusted y z q few before.0,
             subst (λ (ws : List Want). Steps e begin ws z.traversal Went) (one_more_quiet wants n)
-                (stepped trusted (wants ++ replicate n Nothing) y z (record { want = Nothing; state = Went }) q few before.0 before.1),
+                (stepped trusted (wants ++ replicate n Nothing) y z quiet q few before.0 before.1),
           )
 
       pub run_stepped : (wants : List Want) (n : ℕ) (x z : On S) (t : Turned) → IsTrusted e → RunsOn gives counts told behavior input n x z t → LendsWanted x.traversal.workspace x.lent → FaultInvariant e x.traversal (lent_words x.lent) begin (counts x.core) →
@@ -237,7 +241,7 @@ module _ {S : Type 0} (gives : S → (q : Question) → Answer q → S → Type 
       quiet_on_way : IsCallContext e → (a b : On S) → IsQuiet a b → IsOnWay a → IsOnWay b
       quiet_on_way call_context a b q h =
           let before : (counts b.core).struck ≡ begin.struck → (counts a.core).struck ≡ begin.struck = λ same. omega (arith, same, h.later, q.struck) in
-          let stays = λ (same : (counts b.core).struck ≡ begin.struck). makes_on_way call_context a b (record { want = Nothing; state = Went }) q (h.lends (before same)) (h.way (before same)) in
+          let stays = λ (same : (counts b.core).struck ≡ begin.struck). makes_on_way call_context a b quiet q (h.lends (before same)) (h.way (before same)) in
           record {
             later = omega (arith, h.later, q.struck);
             lends = λ same. lends_on e a.traversal.workspace a.lent b.lent b.traversal.workspace.place.phase q.lent a.traversal.workspace.place.phase (h.lends (before same)) ((stays same).wants same) ((stays same).next same);

@@ -59,7 +59,7 @@ use Rattle.sei_traverse.proofs.GoodAnswers.{good_answers}
 use Rattle.sei_traverse.proofs.PhaseLaws.{given_for, ActsWell, PhaseLaws}
 use Rattle.sei_traverse.proofs.PhaseLaws.LeadsWell.{Onward}
 use Rattle.sei_traverse.proofs.SmallNotes.{small_whole}
-use Rattle.sei_traverse.proofs.TimeLaws.{timeless_again}
+use Rattle.sei_stmt.proofs.Public.{timeless_again}
 
 -- A step of a reading pass leaves the notes, whatever is answered.
 

@@ -22,40 +22,13 @@ use Rattle.sei_stmt.proofs.PublicStatementRuns.{by_statements}
 use Rattle.sei_stmt.specs.Honest.{after, onward, onward_from, HonestRun}
 use Rattle.sei_stmt.specs.Order.{finished, stage_onward, stage_after}
 use Rattle.sei_stmt.specs.Sound.{RisesFrom}
-use Rattle.sei_stmt.proofs.Public.{after_one, still_halted, halts_or_aborts, halts_or_goes_on}
+use Rattle.sei_stmt.proofs.PublicTimes.Asks.{Timed, Untimed}
+use Rattle.sei_stmt.proofs.Public.{Asks, asks, timing, timed_step, timeless, timeless_again, after_one, still_halted, halts_or_aborts, halts_or_goes_on}
 use Rattle.sei_traverse.specs.Comes.{at_time, again, Agrees, Comes, EndsAt, EndsAlways}
 use Rattle.sei_traverse.specs.CallContext.{no_notes}
 use Rattle.sei_traverse.proofs.NoteLaws.{now_kept, stage_of, untimed_before}
 
--- the time and one step
-
-timeless_render : (g : Setting) (t i : ℕ) (m : Machine) (read words : List ℕ) → render_words (at_time g t) i m read words ≡ render_words g i m read words
-timeless_render g t i m read [] = timeless_bytes (g.rendered read)
-  where
-    timeless_bytes : (made : Option (List ℕ)) → render_bytes (at_time g t) i m made ≡ render_bytes g i m made
-    timeless_bytes None = refl
-    timeless_bytes (Some bytes) = refl
-timeless_render g t i m read (word ∷ words) = ap (Ask (Value word)) (fun_ext (λ v. timeless_render g t i m (read ++ v ∷ []) words))
-
-timeless_statement : (g : Setting) (t i : ℕ) (m : Machine) (s : Stmt) → ((to : ℕ) → s ≡ Now to → now_tree (at_time g t) i m to ≡ now_tree g i m to) →
-    statement_tree (at_time g t) i m s ≡ statement_tree g i m s
-timeless_statement g t i m (Now to) h = h to refl
-timeless_statement g t i m Render h = timeless_render g t i m [] m.output.items
-timeless_statement g t i m s h = refl
-
-timeless_step : (g : Setting) (t i : ℕ) (m : Machine) → ((to : ℕ) → slice_get g.statements i ≡ Some (Now to) → (c : Machine) → now_tree (at_time g t) i c to ≡ now_tree g i c to) →
-    step_tree (at_time g t) i m ≡ step_tree g i m
-timeless_step g t i m h =
-    by_statements g.reading t (λ log. log) (λ notes. notes) g i m (λ a b. b ≡ a) (λ cause. refl)
-    (λ s is. timeless_statement g t i (one_made m) s (λ to e. h to (is ∙ ap Some e) (one_made m)))
-
--- a step that doesn't ask for the time is the same whatever the time is
-pub timeless : (g : Setting) (t i : ℕ) (m : Machine) → ((to : ℕ) → slice_get g.statements i ≡ Some (Now to) → ⊥) → step_tree (at_time g t) i m ≡ step_tree g i m
-timeless g t i m other = timeless_step g t i m (λ to e. absurd (other to e))
-
--- the second pass never asks the clock
-pub timeless_again : (g : Setting) (t i : ℕ) (m : Machine) → step_tree (at_time (again g) t) i m ≡ step_tree (again g) i m
-timeless_again g t i m = timeless_step (again g) t i m (λ to e c. refl)
+-- the second pass at any time
 
 onward_again : (g : Setting) (t : ℕ) (m : Machine) (o : Outcome) → onward_from (at_time (again g) t) m o ≡ onward_from (again g) m o
 onward_again g t m (Next i) = ap (λ (tree : Tree After). honest tree) (timeless_again g t i m)
@@ -83,19 +56,6 @@ weighed_after_again g t start (suc n) =
 
 -- one honest step more of a first pass
 
--- a statement asks for the time or doesn't
-data Asks (o : Option Stmt) : Type 0 where
-  Timed : (to : ℕ) → o ≡ Some (Now to) → Asks o
-  Untimed : ((to : ℕ) → o ≡ Some (Now to) → ⊥) → Asks o
-
-asks_time : (s : Stmt) → Asks (Some s)
-asks_time (Now to) = Timed to refl
-asks_time s = Untimed (λ t e. cc)
-
-asks : (o : Option Stmt) → Asks o
-asks None = Untimed (λ t e. cc)
-asks (Some s) = asks_time s
-
 -- a time that the notes don't speak against is one of the clock
 pub within_clock : (o : Option Coded) (t : ℕ) → Agrees o t → t < 2 ^ 64
 within_clock None t a = a
@@ -106,14 +66,6 @@ pub comes_start : (g : Setting) (start : Machine) → start.notes ≡ no_notes �
 comes_start g start blank =
     let none : start.notes.now ≡ None = ap (λ (n : Notes). n.now) blank in
     record { time = 0; agrees = subst (λ o. Agrees o 0) (sym none) (omega arith); run = λ now a. refl; asked = λ now a. refl }
-
--- the tree of a statement of a first pass that asks for the time, where the budget allows it
-abbrev timing : Setting → Machine → ℕ → ℕ → Bool → ℕ → Tree After
-timing g m i to enough t = count_if enough (making (at_time g t)) i m (Now to)
-
-timed_step : (g : Setting) (m : Machine) (i to t : ℕ) → g.reading ≡ false → slice_get g.statements i ≡ Some (Now to) → step_tree (at_time g t) i m ≡ timing g m i to (nat_lt m.made g.budget) t
-timed_step g m i to t first is =
-    ap (λ (b : Bool). step_tree (record (at_time g t) { reading = b }) i m) first ∙ ap (found_tree (making (at_time g t)) i m) is
 
 asked_one : (g : Setting) (start m : Machine) (i n q : ℕ) (tree : Tree After) → after g start n ≡ record { machine = m; outcome = Next i } → weighed_after g start n ≡ q → step_tree g i m ≡ tree →
     weighed_after g start (suc n) ≡ q + weighed tree

@@ -62,9 +62,13 @@ pub record Makes {S : Type 0} (gives : S → (q : Question) → Answer q → S �
   pub asked : min (counts x.core).asked (2 ^ 128 - 1) ≤ (counts y.core).asked
   pub struck : (counts x.core).struck ≤ (counts y.core).struck
 
--- one that wants nothing, and the traversal goes on
+-- nothing is wanted, and the traversal goes on
+abbrev pub quiet : Turned
+quiet = record { want = Nothing; state = Went }
+
+-- a step that turned out so
 abbrev pub Quiet : {S : Type 0} → (S → (q : Question) → Answer q → S → Type 0) → (S → Counts) → Option ℕ → Behavior → List ℕ → On S → On S → Type 0
-Quiet gives counts told behavior input x y = Makes gives counts told behavior input x y (record { want = Nothing; state = Went })
+Quiet gives counts told behavior input x y = Makes gives counts told behavior input x y quiet
 
 -- n quiet steps, and one more that turned out so
 pub record RunsOn {S : Type 0} (gives : S → (q : Question) → Answer q → S → Type 0) (counts : S → Counts) (told : Option ℕ) (behavior : Behavior) (input : List ℕ)

@@ -206,6 +206,7 @@ impl Workspace {
         requires first { self.old.place.phase ≡ Phase.First }
         ensures run { RunsAs K.gives K.counts (C.told clock.now) (H.behavior hands.now) input.now space.now
             (work self.old (L.lent_bucket lent.old) core.old) (work self.new (L.lent_bucket lent.new) core.new) result }
+        ensures few { result.before ≤ space.now.budget }
         ensures stays { Stays self.old self.new }
     {
         self.want = Want::Nothing;
@@ -244,6 +245,7 @@ impl Workspace {
         requires second { self.old.place.phase ≡ Phase.Second }
         ensures run { RunsAs K.gives K.counts (C.told clock.now) (H.behavior hands.now) input.now space.now
             (work self.old (L.lent_bucket lent.old) core.old) (work self.new (L.lent_bucket lent.new) core.new) result }
+        ensures few { result.before ≤ space.now.budget }
         ensures stays { Stays self.old self.new }
     {
         self.want = Want::Nothing;
@@ -279,6 +281,7 @@ impl Workspace {
         requires lent { IsOf space.now.geometry (L.lent_bucket lent.old) }
         ensures run { RunsAs K.gives K.counts (C.told clock.now) (H.behavior hands.now) input.now space.now
             (work self.old (L.lent_bucket lent.old) core.old) (work self.new (L.lent_bucket lent.new) core.new) result }
+        ensures few { result.before ≤ space.now.budget }
         ensures stays { Stays self.old self.new }
     {
         let state = self.step_alone(hands, input, space, lent, core, clock);
@@ -309,6 +312,7 @@ impl Workspace {
         requires lent { IsOf space.now.geometry (L.lent_bucket lent.old) }
         ensures run { RunsAs K.gives K.counts (C.told clock.now) (H.behavior hands.now) input.now space.now
             (work self.old (L.lent_bucket lent.old) core.old) (work self.new (L.lent_bucket lent.new) core.new) result }
+        ensures few { result.before ≤ space.now.budget }
         ensures stays { Stays self.old self.new }
     {
         match self.place.phase {

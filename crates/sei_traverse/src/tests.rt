@@ -500,15 +500,16 @@ fn runs_lead_where_steps_do(rt: HostRuntime) -> Result<(), Fail> {
     Ok(())
 }
 
-/// `Const`, `Store`, `Emit` and `Render` are made in one run of each pass, and all other steps by
-/// themselves: 28 steps in 22 runs.
+/// A run ends at a want or at the end of the traversal: 28 steps in 5 runs, behind which a bucket is
+/// taken, the call is entered, the bucket is given back, the reply is sent, and the traversal is at
+/// its end.
 #[test]
 fn a_run_makes_many_steps(rt: HostRuntime) -> Result<(), Fail> {
     let alloc = rt.alloc();
     let mut core = PlainCore::new();
     let call = sealed(b"x", Coded::seal(0));
     let served = outcome(alloc, By::Runs, false, call, true, &mut core)?;
-    assert_eq!(rt; served.way.turns, 22);
+    assert_eq!(rt; served.way.turns, 5);
     assert_eq!(rt; served.shown.steps, 28);
     assert_eq!(rt; served.way.state, State::Finished);
     assert_eq!(rt; served.word, Some(1000));

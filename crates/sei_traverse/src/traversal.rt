@@ -46,6 +46,9 @@ impl Model for Traversal {
     ghost invariant = { λ t. IsTraversal (record { workspace = t.workspace; space = t.space; steps = t.steps; running = t.running }) };
 }
 
+/// After so many steps a run stops, so that it ends whatever the core answers.
+const MOST_BEFORE: u64 = 1 << 32;
+
 /// How many steps a traversal makes at most, with one strike at most.
 pub fn most_steps(g: &Geometry) -> u64
     requires { IsValid g.now }
@@ -270,9 +273,8 @@ impl Traversal {
         }
     }
 
-    /// Makes one step or more, each as `step` does. In a pass it goes on up to the first step that wants
-    /// something, leads out of the pass or ends the traversal, or whose statement is a rare one (`Now`,
-    /// `Alloc`, `Parse` or `Render`). In the other phases it makes one step.
+    /// Makes one step or more, each as `step` does, up to the first that wants something or ends the
+    /// traversal. It stops sooner only after more steps than a traversal makes with one strike at most.
     pub fn run<H: Handler, K: Core, C: Clock>(
         &mut self,
         hands: &H,
@@ -308,6 +310,35 @@ impl Traversal {
         requires lent { IsOf self.old.space.geometry (L.lent_bucket lent.old) }
         ensures run { RunsOn K.gives K.counts (C.told clock.now) (H.behavior hands.now) input.now result.before
             (on self.old (L.lent_bucket lent.old) core.old) (on self.new (L.lent_bucket lent.new) core.new) result.turned }
+    {
+        let mut many = self.run_part(hands, input, lent, core, clock);
+        while many.before < MOST_BEFORE && many.turned.is_quiet() {
+            let more = self.run_part(hands, input, lent, core, clock);
+            many = Many {
+                before: many.before + 1 + more.before,
+                turned: more.turned,
+            };
+        }
+        many
+    }
+
+    /// Makes the steps of a pass up to the first that does not lead on in it or whose statement is a
+    /// rare one (`Now`, `Alloc`, `Parse` or `Render`), and of the other phases one step.
+    #[inline(always)]
+    fn run_part<H: Handler, L: Slots, K: Core, C: Clock>(
+        &mut self,
+        hands: &H,
+        input: &[u8],
+        lent: &mut L,
+        core: &mut K,
+        clock: &C,
+    ) -> Many
+        requires running { self.old.running ≡ true }
+        requires room { FitsIn self.old.space ((H.behavior hands.now).parsed input.now) self.old.workspace.sealed }
+        requires lent { IsOf self.old.space.geometry (L.lent_bucket lent.old) }
+        ensures run { RunsOn K.gives K.counts (C.told clock.now) (H.behavior hands.now) input.now result.before
+            (on self.old (L.lent_bucket lent.old) core.old) (on self.new (L.lent_bucket lent.new) core.new) result.turned }
+        ensures few { result.before < 2 ^ 20 }
     {
         let many = self
             .workspace

@@ -1,4 +1,8 @@
 //! How a step of a traversal turns out.
+ghost use Rattle.std.specs.Prelude.{◌≡◌};
+ghost use Rattle.std.specs.Bool.{OnTrue};
+ghost use Rattle.sei_traverse.specs.Running.{quiet};
+
 use sei_fault::{AbortCause, Phase};
 
 /// What a step wants of the caller. A want is to be met in any case, also where the same step aborts.
@@ -50,6 +54,21 @@ pub struct Turned {
     pub want: Want,
     /// Whether the traversal goes on.
     pub state: State,
+}
+
+impl Turned {
+    /// Whether nothing is wanted and the traversal goes on.
+    pub(crate) fn is_quiet(&self) -> bool
+        ensures { OnTrue result (self.now ≡ quiet) }
+    {
+        match self.want {
+            Want::Nothing => match self.state {
+                State::Went => true,
+                State::Finished | State::Refused | State::Aborted(_) => false,
+            },
+            Want::Take { bucket: _ } | Want::Enter | Want::Give | Want::Send => false,
+        }
+    }
 }
 
 /// How many steps at once turned out.

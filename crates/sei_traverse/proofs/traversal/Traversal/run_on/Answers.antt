@@ -1,24 +1,44 @@
-use Rattle.std.proofs.Common.{◌≡◌, ℕ, ◌∙◌, ap, sym, arith, true, Bool, rules}
-use Rattle.sei_traverse.specs.Running.{on, left_at}
-use Rattle.sei_traverse.specs.State.{TraversalState, is_running}
-use Rattle.sei_traverse.proofs.Lift.{run_counted}
+use Rattle.std.proofs.Common.{◌≡◌, ℕ, ◌+◌, suc, ◌≤◌, length, ◌∙◌, sym, ap, subst, arith}
+use Rattle.sei_pass.specs.declared.spaces.PassSpace.{PassSpace}
+use Rattle.sei_pass.specs.declared.given.Sealed.{Sealed}
+use Rattle.sei_pass.specs.Setting.{sealed_call}
+use Rattle.sei_stmt.specs.Handling.{parsed_words}
+use Rattle.sei_traverse.specs.declared.turned.Turned.{Turned}
+use Rattle.sei_traverse.specs.Running.{on, RunsOn, quiet}
+use Rattle.sei_traverse.specs.State.{is_running}
+use Rattle.sei_traverse.proofs.PublicLentBuckets.{laid_out_as}
+use Rattle.sei_traverse.proofs.PublicRuns.{run_sealed, run_space, run_lent, runs_join}
 use Rattle.sei_traverse.proofs.traversal.Traversal.run_on.Goals as goal
 
-pub returns : goal.returns
-returns g c =
-    let many = c.run-many.result in
-    let workspace = c.run-many.new.self in
-    let space = c.self.inside.space in
-    let old = g.L.Lent.lent_bucket c.args.lent.now in
-    let left = g.L.Lent.lent_bucket c.run-many.new.lent in
-    let at_steps : ℕ → TraversalState = λ n. record { workspace = workspace; space = space; steps = n; running = is_running many.turned.state } in
-    let at_end : Bool → TraversalState = λ b. record { workspace = workspace; space = space; steps = c.saturating_add-self-inside.result; running = b } in
-    let begun : Bool → TraversalState = λ b. record { workspace = c.self.inside.workspace; space = space; steps = c.self.inside.steps; running = b } in
-    let goes : c.eq-self-inside.result ≡ is_running many.turned.state = search rules in
+pub run_part-more-requires-clause-running : goal.run_part-more-requires-clause-running
+run_part-more-requires-clause-running g c = c.loop-many.invariant.run.makes.running ∙ ap (λ (t : Turned). is_running t.state) c.if-is_quiet.ensures
+
+pub run_part-more-requires-clause-room : goal.run_part-more-requires-clause-room
+run_part-more-requires-clause-room g c =
+    let parsed = (g.H.Handler.behavior c.args.hands.now).parsed c.args.input.now in
+    subst (λ (s : PassSpace). length (parsed_words (sealed_call parsed c.loop-many.self.workspace.sealed.nth)) ≤ s.input) (sym (run_space _ _ _ _ _ _ _ _ _ c.loop-many.invariant.run))
+    (subst (λ (s : Sealed). length (parsed_words (sealed_call parsed s.nth)) ≤ c.args.self.now.space.input) (sym (run_sealed _ _ _ _ _ _ _ _ _ c.loop-many.invariant.run)) c.requires.room)
+
+pub run_part-more-requires-clause-lent : goal.run_part-more-requires-clause-lent
+run_part-more-requires-clause-lent g c =
+    let space = run_space _ _ _ _ _ _ _ _ _ c.loop-many.invariant.run in
+    laid_out_as c.loop-many.self.space.geometry (g.L.Lent.lent_bucket c.args.lent.now) (g.L.Lent.lent_bucket c.loop-many.lent) (run_lent _ _ _ _ _ _ _ _ _ c.loop-many.invariant.run)
+    (rw space c.requires.lent)
+
+pub loop-many-preserved : goal.loop-many-preserved
+loop-many-preserved g c =
+    let first = c.loop-many.many.before in
+    let more = c.run_part-more.result.before in
+    let x = on c.args.self.now (g.L.Lent.lent_bucket c.args.lent.now) c.args.core.now in
+    let y = on c.loop-many.self (g.L.Lent.lent_bucket c.loop-many.lent) c.loop-many.core in
+    let z = on c.run_part-more.new.self (g.L.Lent.lent_bucket c.run_part-more.new.lent) c.run_part-more.new.core in
+    let told = g.C.Clock.told c.args.clock.now in
+    let behavior = g.H.Handler.behavior c.args.hands.now in
+    let so_far : RunsOn g.K.Core.gives g.K.Core.counts told behavior c.args.input.now first x y quiet =
+    subst (λ (t : Turned). RunsOn g.K.Core.gives g.K.Core.counts told behavior c.args.input.now first x y t) c.if-is_quiet.ensures c.loop-many.invariant.run in
+    let sum : suc first + more ≡ first + 1 + more = omega arith in
     record {
-      run = run_counted g.K.Core.gives g.K.Core.counts (g.C.Clock.told c.args.clock.now) (g.H.Handler.behavior c.args.hands.now) c.args.input.now many.before
-          (on (begun true) old c.args.core.now) (on c.args.self.now old c.args.core.now) (on (left_at workspace space c.self.inside.steps many) left c.run-many.new.core) (on (at_end c.eq-self-inside.result) left c.run-many.new.core) many.turned
-          (ap (λ (t : TraversalState). on t old c.args.core.now) (ap begun (sym (ap (λ (t : TraversalState). t.running) c.self.view_is ∙ c.requires.running)) ∙ c.self.view_is))
-          (ap (λ (t : TraversalState). on t left c.run-many.new.core) (ap at_steps (omega (arith, c.saturating_add.ensures, c.saturating_add-self-inside.ensures)) ∙ ap at_end (sym goes)))
-          (c.run-many.ensures.run c.self.inside.steps (omega arith));
+      run = subst (λ (n : ℕ). RunsOn g.K.Core.gives g.K.Core.counts told behavior c.args.input.now n x z c.run_part-more.result.turned) sum
+          (runs_join g.K.Core.gives g.K.Core.counts told behavior c.args.input.now first more x y z c.run_part-more.result.turned so_far c.run_part-more.ensures.run);
+      few = omega (arith, c.run_part-more.ensures.few);
     }
