@@ -21,7 +21,8 @@ use Rattle.sei_traverse.specs.CallContext.{CallContext, IsCallContext}
 use Rattle.sei_traverse.specs.FaultInvariant.{FaultInvariant, LendsWanted, Isolates}
 use Rattle.sei_traverse.specs.Noting.{NotesTime}
 use Rattle.sei_traverse.specs.Noting.NotesTime.{Same}
-use Rattle.sei_traverse.specs.OnWay.{lent_words, Lends, LendsBucketOf, TellsAs, OnWay, OnWayAfter, StaysOnWay}
+use Rattle.sei_traverse.specs.OnWay.{lent_words, Lends, LendsBucketOf, TellsAs, OnWay, OnWayAfter, StaysOnWay, IsUnfit}
+use Rattle.sei_traverse.specs.Promises.{RefusesUnfit}
 use Rattle.sei_traverse.specs.Running.{On, Makes, quiet, Quiet, RunsOn}
 use Rattle.sei_traverse.specs.Given.{given_of, bucket_or_zero}
 use Rattle.sei_stmt.specs.Handling.{Behavior}
@@ -33,6 +34,7 @@ use Rattle.sei_traverse.specs.Wanting.{Steps}
 use Rattle.sei_traverse.specs.Wanting.Steps.{GoesOn}
 use Rattle.sei_traverse.proofs.Isolated.{isolates_one}
 use Rattle.sei_traverse.proofs.NotingLaws.{behind}
+use Rattle.sei_traverse.proofs.PublicSteps.{step_refuses, of_made}
 use Rattle.sei_traverse.proofs.Onward.{stays_on_way_given}
 use Rattle.sei_traverse.proofs.StepsBound.{steps_after_turned, room_left_turned}
 use Rattle.sei_traverse.proofs.StepResultLaws.{same_bucket}
@@ -164,6 +166,24 @@ module _ {S : Type 0} (gives : S → (q : Question) → Answer q → S → Type 
     pub run_room : (n : ℕ) (x z : On S) (t : Turned) → RunsOn gives counts told behavior input n x z t → Lowers x z
     run_room n x z t = run_relates Lowers n x z t (λ r e. (r, e, refl))
         (λ a b s m h r e. let i = h r e in let j = makes_room a b s m i.0 i.1 in (j.0, j.1, j.2 ∙ i.2))
+
+    -- from Guard an unfit input is refused at the first step
+
+    makes_refuses : (a b : On S) (s : Turned) → Makes gives counts told behavior input a b s → RefusesUnfit counts behavior input a b s
+    makes_refuses = of_made gives counts (λ told behavior input a b s. RefusesUnfit counts behavior input a b s) (step_refuses gives counts law) told behavior input
+
+    went_on : quiet.state ≡ Refused → ⊥
+    went_on e = cc
+
+    chain_fit : (n : ℕ) (x z : On S) → Chain IsQuiet (suc n) x z → IsUnfit (given_of behavior input x.traversal.space None) x.traversal.workspace → (counts z.core).struck ≡ (counts x.core).struck → ⊥
+    chain_fit zero x z (y, is, q) unfit same =
+        went_on (makes_refuses x z quiet (subst (λ (a : On S). IsQuiet a z) is q) unfit same)
+    chain_fit (suc n) x z (y, c, q) unfit same =
+        chain_fit n x y c unfit (omega (arith, same, q.struck, chain_struck (suc n) x y c))
+
+    pub run_refuses : (n : ℕ) (x z : On S) (t : Turned) → RunsOn gives counts told behavior input n x z t → RefusesUnfit counts behavior input x z t
+    run_refuses zero x z t r unfit same = makes_refuses x z t (subst (λ (a : On S). Makes gives counts told behavior input a z t) r.chain r.makes) unfit same
+    run_refuses (suc n) x z t r unfit same = absurd (chain_fit n x r.last r.chain unfit (omega (arith, same, r.makes.struck, chain_struck (suc n) x r.last r.chain)))
 
     -- the number of steps stays bounded
 

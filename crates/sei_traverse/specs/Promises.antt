@@ -1,4 +1,4 @@
--- What each step keeps, and so does a run of many. A step leads from x to y; a run leads from x over `last` to z, by its last step.
+-- What each step keeps, and what a run of many. A step leads from x to y; a run leads from x over `last` to z, by its last step.
 use Rattle.std.specs.Prelude.{◌≡◌, ℕ, ◌+◌, ◌≤◌, List, [], ◌∷◌, ◌++◌, Option, Some, None, replicate}
 use Rattle.sei_fault.specs.Counts.{Counts}
 use Rattle.sei_fault.specs.Question.{Question, Answer}
@@ -37,6 +37,7 @@ LastOnWay counts told behavior input x last z t =
     Lends e x.traversal.workspace.place.phase x.lent → OnWay e x.traversal (lent_words x.lent) begin (counts x.core) →
     StaysOnWay e last.traversal z.traversal (lent_words z.lent) begin (counts z.core) t.want t.state
 
+-- if x is on its way, so is y
 abbrev pub KeepsOnWay : {S : Type 0} → (S → Counts) → Option ℕ → Behavior → List ℕ → On S → On S → Turned → Type 0
 KeepsOnWay counts told behavior input x y t = LastOnWay counts told behavior input x x y t
 
@@ -47,6 +48,7 @@ LastIsolated counts told behavior input x last z t =
     LendsWanted x.traversal.workspace x.lent → FaultInvariant e x.traversal (lent_words x.lent) begin (counts x.core) → (counts z.core).struck ≤ begin.struck + 1 →
     Isolates e last.traversal z.traversal last.lent z.lent begin (counts z.core) t.want t.state
 
+-- if one strike at most has struck x, the step to y is isolated
 abbrev pub KeepsIsolated : {S : Type 0} → (S → Counts) → Option ℕ → Behavior → List ℕ → On S → On S → Turned → Type 0
 KeepsIsolated counts told behavior input x y t = LastIsolated counts told behavior input x x y t
 
@@ -57,7 +59,7 @@ KeepsSteps counts told behavior input n x z t =
     LendsWanted x.traversal.workspace x.lent → FaultInvariant e x.traversal (lent_words x.lent) begin (counts x.core) → (counts z.core).struck ≤ begin.struck + 1 →
     (wants : List Want) → Steps e begin wants x.traversal Went → Steps e begin ((wants ++ replicate n Nothing) ++ t.want ∷ []) z.traversal t.state
 
--- without a strike, an input that does not pass the tests of Guard is refused
+-- without a strike on the way, from Guard an input that does not pass its tests is refused
 abbrev pub RefusesUnfit : {S : Type 0} → (S → Counts) → Behavior → List ℕ → On S → On S → Turned → Type 0
 RefusesUnfit counts behavior input x y t =
     IsUnfit (given_of behavior input x.traversal.space None) x.traversal.workspace → (counts y.core).struck ≡ (counts x.core).struck → t.state ≡ Refused

@@ -11,7 +11,7 @@ ghost use Rattle.sei_traverse.specs.CallContext.{CallContext, IsCallContext};
 ghost use Rattle.sei_traverse.specs.FaultInvariant.{FaultInvariant};
 ghost use Rattle.sei_traverse.specs.OnWay.{OnWay, AtEnd};
 ghost use Rattle.sei_traverse.specs.Phases.{reply_of};
-ghost use Rattle.sei_traverse.specs.Promises.{KeepsBound, KeepsRoom, KeepsTime, KeepsOnWay, LastOnWay, KeepsIsolated, LastIsolated, KeepsSteps};
+ghost use Rattle.sei_traverse.specs.Promises.{KeepsBound, KeepsRoom, KeepsTime, KeepsOnWay, LastOnWay, KeepsIsolated, LastIsolated, KeepsSteps, RefusesUnfit};
 ghost use Rattle.sei_traverse.specs.Promises.{OfEachStep, OfEachRun, EachRunKeeps};
 ghost use Rattle.sei_traverse.specs.Running.{On, Makes};
 ghost use Rattle.sei_traverse.specs.Served.{IfUnstruckIn, IsServed, HasReply};
@@ -36,7 +36,8 @@ pub fn traversals_are_on_their_way()
         OnWay e t (Some words) begin now → OnWay e t None begin now }
 {}
 
-/// Without a strike a traversal comes to its end: it makes no more steps than this.
+/// Without a strike a traversal comes to its end: it makes no more steps than this, which is less than
+/// a count of 64 bits holds for a valid geometry.
 pub fn traversals_end()
     ensures running { (e : CallContext) (t : TraversalState) (lent : Option (List ℕ)) (begin now : Counts) → IsCallContext e → OnWay e t lent begin now → now.struck ≡ begin.struck →
         t.steps ≤ honest_steps e.space }
@@ -62,11 +63,14 @@ pub fn faults_are_isolated()
 /// handler that may be trusted on the input, and every clock. What is known of a traversal that at most
 /// one strike has struck is known after each of its steps; what it wants is so, and is wanted but once;
 /// it aborts only if a strike fell, and is refused only before `Take` is closed. With one strike at most
-/// the number of steps stays bounded; and without one the traversal stays on its way.
+/// the number of steps stays bounded; without one the traversal stays on its way, and an input that does
+/// not pass the tests of `Guard` is refused. No more strikes fall than the core has room for.
 pub fn one_strike_is_isolated<K: Core>()
     ensures isolated { OfEachStep K.gives (KeepsIsolated K.counts) }
     ensures within { OfEachStep K.gives (λ told behavior input x y t. IsTraversal x.traversal → KeepsBound K.counts x y t) }
     ensures on_way { OfEachStep K.gives (KeepsOnWay K.counts) }
+    ensures room { OfEachStep K.gives (λ told behavior input x y t. KeepsRoom K.counts x y) }
+    ensures refused { OfEachStep K.gives (λ told behavior input x y t. RefusesUnfit K.counts behavior input x y t) }
 {}
 
 /// Over all steps of a traversal that are isolated, `Take`, `Enter`, `Give` and `Send` are wanted in this
@@ -96,22 +100,24 @@ pub fn runs_keep_what_steps_keep<K: Core>()
 {}
 
 /// What a step notes of the time is the clock's answer, and so is what a run of many steps notes,
-/// whatever strikes fall.
+/// unless a strike fell in it.
 pub fn clocks_are_noted<K: Core>()
-    ensures step { (told : Option ℕ) (behavior : Behavior) (input : List ℕ) (x y : On K) (t : Turned) →
-        Makes K.gives K.counts told behavior input x y t → KeepsTime told x y }
-    ensures run { OfEachRun K.gives K.counts (λ told behavior input n x last z t. KeepsTime told x z) }
+    ensures step { OfEachStep K.gives (λ told behavior input x y t.
+        (K.counts y.core).struck ≡ (K.counts x.core).struck → KeepsTime told x y) }
+    ensures run { OfEachRun K.gives K.counts (λ told behavior input n x last z t.
+        (K.counts z.core).struck ≡ (K.counts x.core).struck → KeepsTime told x z) }
 {}
 
 /// A run of many steps goes as its steps do. With one strike at most its steps are bounded. From a
 /// traversal that is on its way, its last step stays on it; and from one that at most one strike has
 /// struck, its last step is isolated. All its steps are steps of the traversal, of which only the last
-/// may want anything.
+/// may want anything. Without a strike an input that does not pass the tests of `Guard` is refused.
 pub fn runs_go_as_steps_go<K: Core>()
     ensures within { OfEachRun K.gives K.counts (λ told behavior input n x last z t. IsTraversal x.traversal → KeepsBound K.counts x z t) }
     ensures on_way { OfEachRun K.gives K.counts (λ told behavior input n x last z t. LastOnWay K.counts told behavior input x last z t) }
     ensures isolated { OfEachRun K.gives K.counts (λ told behavior input n x last z t. LastIsolated K.counts told behavior input x last z t) }
     ensures wanted { OfEachRun K.gives K.counts (λ told behavior input n x last z t. KeepsSteps K.counts told behavior input n x z t) }
+    ensures refused { OfEachRun K.gives K.counts (λ told behavior input n x last z t. RefusesUnfit K.counts behavior input x z t) }
 {}
 
 /// With one strike at most since it began, a traversal makes no more steps than its bound, whatever
@@ -139,7 +145,7 @@ pub fn both_passes_are_made()
 {}
 
 /// A sound handler is trusted on words that stand for a state of its model, so a strike is isolated
-/// there; where the input has the call, that is a call context as well. What is to be entered is the answer:
+/// there; where the input is the sealed one and has the call, that is a call context as well. What is to be entered is the answer:
 /// the words stand for the state that it leaves at the noted time, and the reply is the answer's.
 pub fn sound_handlers_are_trusted<H: Modeled>()
     ensures trusted { (h : H) (e : CallContext) → IsServedBy (H.space h) (H.begins h) (H.stands h) (H.answer h) e → IsTrusted e }

@@ -18,8 +18,8 @@ mod verifying;
 mod workspace;
 
 pub use laws::{
-    both_passes_are_made, clocks_are_noted, faults_are_isolated, runs_go_as_steps_go,
-    runs_keep_what_steps_keep, sound_handlers_are_trusted, steps_are_bounded,
+    both_passes_are_made, clocks_are_noted, faults_are_isolated, one_strike_is_isolated,
+    runs_go_as_steps_go, runs_keep_what_steps_keep, sound_handlers_are_trusted, steps_are_bounded,
     traversals_are_on_their_way, traversals_end, wants_come_once,
 };
 pub use traversal::{Traversal, most_steps};

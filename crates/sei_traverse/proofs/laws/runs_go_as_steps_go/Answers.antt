@@ -1,4 +1,4 @@
-use Rattle.sei_traverse.proofs.PublicRuns.{run_within, run_on_way, run_isolated, run_stepped}
+use Rattle.sei_traverse.proofs.PublicRuns.{run_within, run_on_way, run_isolated, run_stepped, run_refuses}
 use Rattle.sei_traverse.proofs.laws.runs_go_as_steps_go.Goals as goal
 
 pub returns-clause-within : goal.returns-clause-within
@@ -15,3 +15,6 @@ returns-clause-isolated g c = λ told behavior input n x z t r e begin trusted t
 pub returns-clause-wanted : goal.returns-clause-wanted
 returns-clause-wanted g c = λ told behavior input n x z t r e begin trusted tells f h lends facts few wants steps.
     run_stepped g.K.Core.gives g.K.Core.counts told behavior input g.met.K.Core.lawful e begin f h tells wants n x z t trusted r lends facts few steps
+
+pub returns-clause-refused : goal.returns-clause-refused
+returns-clause-refused g c = λ told behavior input n x z t r. run_refuses g.K.Core.gives g.K.Core.counts told behavior input g.met.K.Core.lawful n x z t r
