@@ -1,5 +1,5 @@
 //! One step of a traversal, and many at once. Those of the passes are made as the loop over a pass makes them.
-ghost use Rattle.std.specs.Prelude.{◌≡◌, ℕ, List, true, false};
+ghost use Rattle.std.specs.Prelude.{◌≡◌, ◌≤◌, ℕ, List, true, false};
 ghost use Rattle.sei_fault.specs.Tree.{Runs};
 ghost use Rattle.sei_words.specs.LentBucket.{place_of, IsOf};
 ghost use Rattle.sei_pass.specs.Loop.{HasIndexAfter};
