@@ -1,5 +1,5 @@
 -- What the traversal of a call is to do.
-use Rattle.std.specs.Prelude.{ℕ, ◌*◌, List, Some}
+use Rattle.std.specs.Prelude.{ℕ, List, Some}
 use Rattle.mc_model.specs.declared.geometry.Geometry.{Geometry}
 use Rattle.mc_model.specs.Call.{Placed}
 use Rattle.sei_pass.specs.declared.given.Sealed.{Sealed}

@@ -13,4 +13,5 @@ pub mod WordLaws
 pub mod PlanLaws
 pub mod SpellingLaws
 pub mod OneSpelling
+pub mod ReadsLaws
 pub mod Public

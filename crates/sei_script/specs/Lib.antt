@@ -16,3 +16,4 @@ pub mod ReportLines
 pub mod AbortLines
 pub mod Spelling
 pub mod Causes
+pub mod Reads

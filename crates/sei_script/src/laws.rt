@@ -8,6 +8,9 @@ ghost use Rattle.sei_script.specs.Faults.{once};
 ghost use Rattle.sei_script.specs.Says.{line_says};
 ghost use Rattle.sei_script.specs.Spelling.{numeral, SpellsLine};
 ghost use Rattle.sei_script.specs.Causes.{IsSaidOnce};
+ghost use Rattle.sei_script.specs.Reading.{Reads, Fails, reading_of};
+ghost use Rattle.sei_script.specs.Reads.{ReadsText, FailsText};
+ghost use Rattle.sei_script.specs.declared.line.Why.{Why};
 ghost use Rattle.sei_script.specs.declared.line.ScriptLine.{ScriptLine};
 ghost use Rattle.sei_script.specs.declared.line.Said.{Said};
 
@@ -18,6 +21,19 @@ pub fn lines_are_read_as_spelled()
         → IsSaidOnce script (strip_carriage_return line) said → once script (line_says (context_of script) line) ≡ said }
     ensures only { (script : List ScriptLine) (line : List ℕ) (said : Said)
         → once script (line_says (context_of script) line) ≡ said → IsSaidOnce script (strip_carriage_return line) said }
+{}
+
+/// What the reader makes of a text is what is said apart from it: it reads as a script, or fails at its
+/// first line that does not read, with the cause of that line.
+pub fn scripts_are_read_as_spelled()
+    ensures read { (limit : ℕ) (bytes : List ℕ) (script : List ScriptLine)
+        → ReadsText limit bytes script → reading_of limit bytes ≡ Reads script }
+    ensures read_only { (limit : ℕ) (bytes : List ℕ) (script : List ScriptLine)
+        → reading_of limit bytes ≡ Reads script → ReadsText limit bytes script }
+    ensures failed { (limit : ℕ) (bytes : List ℕ) (number : ℕ) (why : Why)
+        → FailsText limit bytes number why → reading_of limit bytes ≡ Fails number why }
+    ensures failed_only { (limit : ℕ) (bytes : List ℕ) (number : ℕ) (why : Why)
+        → reading_of limit bytes ≡ Fails number why → FailsText limit bytes number why }
 {}
 
 /// A text spells one line at most.

@@ -22,7 +22,10 @@ mod write;
 
 pub use aborts::{abort_text, end_text, phase_text};
 pub use escapes::escape;
-pub use laws::{a_text_spells_one_line, lines_are_read_as_spelled, numbers_are_decimal};
+pub use laws::{
+    a_text_spells_one_line, lines_are_read_as_spelled, numbers_are_decimal,
+    scripts_are_read_as_spelled,
+};
 pub use line::{ScriptLine, Why};
 pub use lines::Script;
 pub use reader::{LIMIT, ScriptFault, read_script};

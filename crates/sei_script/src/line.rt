@@ -95,11 +95,7 @@ impl Context {
                 opens: self.opens + 1,
                 ..self
             },
-            ScriptLine::Say { .. }
-            | ScriptLine::Hex { .. }
-            | ScriptLine::Drain
-            | ScriptLine::Clock { .. }
-            | ScriptLine::Fault { .. } => self,
+            _ => self,
         }
     }
 }

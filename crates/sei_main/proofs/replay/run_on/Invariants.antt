@@ -1,4 +1,4 @@
-use Rattle.std.proofs.Common.{◌≡◌, ◌≤◌, drop, length}
+use Rattle.std.proofs.Common.{◌≡◌, drop, length}
 use Rattle.sei_main.specs.Run.{start_of}
 use Rattle.sei_main.proofs.Written.{Written}
 use Rattle.sei_main.proofs.Runs.{later_events, later_state}

@@ -1,4 +1,4 @@
-use Rattle.std.proofs.Common.{◌≡◌, ◌≤◌, take}
+use Rattle.std.proofs.Common.{◌≡◌, take}
 use Rattle.std.specs.Io.KnownBytes.{append_known}
 use Rattle.sei_main.specs.Report.{seats_text}
 use Rattle.sei_main.proofs.report.write_closing.Given as goal

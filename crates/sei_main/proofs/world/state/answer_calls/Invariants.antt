@@ -1,4 +1,4 @@
-use Rattle.std.proofs.Common.{◌≡◌, ◌≤◌, length}
+use Rattle.std.proofs.Common.{◌≡◌, length}
 use Rattle.mc_text.specs.Reading.{calls_at}
 use Rattle.mc_text.specs.Walk.{IsAt, place_of}
 use Rattle.sei_traverse.specs.declared.turned.State.TheVariants.{Finished}

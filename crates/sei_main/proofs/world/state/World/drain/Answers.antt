@@ -1,4 +1,4 @@
-use Rattle.std.proofs.Common.{◌+◌, ◌<◌, ◌∙◌, ap, sym, subst, length, Bool, arith}
+use Rattle.std.proofs.Common.{◌+◌, ◌<◌, ◌∙◌, ap, sym, subst, length, Bool}
 use Rattle.std.specs.Prelude.{if◌then◌else◌}
 use Rattle.sei_main.specs.State.{StateOf, led_by, drained_by, bytes_waiting}
 use Rattle.sei_main.proofs.Rounds.{drain_smaller, drained_if, round_from_length}

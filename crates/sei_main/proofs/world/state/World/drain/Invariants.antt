@@ -1,4 +1,4 @@
-use Rattle.std.proofs.Common.{◌≡◌, ◌+◌, ◌<◌, ◌≤◌, ◌^◌, length}
+use Rattle.std.proofs.Common.{◌≡◌, ◌+◌, ◌<◌, ◌^◌, length}
 use Rattle.std.specs.Prelude.{if◌then◌else◌}
 use Rattle.sei_main.specs.State.{drained_by, bytes_waiting}
 use Rattle.sei_main.proofs.Written.{Written}

@@ -1,4 +1,4 @@
-use Rattle.std.proofs.Common.{◌≡◌, ◌-◌, ◌≤◌, length}
+use Rattle.std.proofs.Common.{◌≡◌, ◌-◌, length}
 use Rattle.std.specs.Prelude.{◌||◌}
 use Rattle.sei_main.specs.State.{round_by, round_from_by}
 use Rattle.sei_main.proofs.Written.{Written}
