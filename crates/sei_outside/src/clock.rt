@@ -1,5 +1,5 @@
 //! What time it is: a clock that is set by hand, and the system's.
-ghost use Rattle.std.specs.Prelude.{◌≡◌, ℕ, IfSome, Some, None};
+ghost use Rattle.std.specs.Prelude.{◌≡◌, ℕ, ◌<◌, ◌^◌, IfSome, Some, None};
 ghost use Rattle.std.specs.declared.option.Option.{Option};
 ghost use Rattle.sei_outside.specs.Seconds.{seconds_of};
 
@@ -13,7 +13,8 @@ pub trait Clock {
 
     /// The whole seconds since the start of 1970.
     fn now(&self) -> u64
-        ensures told { IfSome (told self.now) (λ seconds. result ≡ seconds) };
+        ensures told { IfSome (told self.now) (λ seconds. result ≡ seconds) }
+        ensures below { IfSome (told self.now) (λ seconds. seconds < 2 ^ 64) };
 }
 
 /// A clock that stands at what it is set to.
