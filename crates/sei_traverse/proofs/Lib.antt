@@ -45,6 +45,7 @@ pub mod StepsBound
 pub mod NotingLaws
 pub mod CountLaws
 pub mod WantingLaws
+pub mod EnteredLaws
 pub mod SmallNotes
 pub mod WordsLast
 pub mod PublicWorkspaceKept

@@ -8,13 +8,14 @@ use Rattle.sei_fault.proofs.Public.{runs_bound}
 use Rattle.sei_log.specs.declared.log.Change.{Change}
 use Rattle.sei_log.specs.declared.notes.Notes.{Notes}
 use Rattle.sei_stmt.specs.Handling.{Behavior}
-use Rattle.sei_stmt.specs.Machine.{Outcome}
 use Rattle.sei_stmt.specs.Statements.{step_tree}
 use Rattle.sei_words.specs.LentBucket.{words_of, bucket_of}
 use Rattle.sei_words.specs.Words.{BucketWords}
+use Rattle.sei_pass.specs.declared.frame.PassStep.{PassStep}
 use Rattle.sei_pass.specs.declared.given.Which.{Which}
 use Rattle.sei_pass.specs.declared.given.Which.TheVariants.{Making, Reading}
 use Rattle.sei_pass.specs.declared.spaces.PassSpace.{PassSpace}
+use Rattle.sei_pass.specs.Frames.{outcome_of}
 use Rattle.sei_pass.specs.State.{PassState}
 use Rattle.sei_pass.specs.Setting.{setting_of}
 use Rattle.sei_pass.specs.Steps.{machine_of, Stepped}
@@ -31,31 +32,31 @@ pass_again p q words log notes e = ap (λ (g : PassSpace). let r : PassState = r
 
 -- the step of the first pass, or of the second, as the code makes it
 module _ {S : Type 0} (gives : S → (q : Question) → Answer q → S → Type 0) (counts : S → Counts) (told : Option ℕ) (behavior : Behavior) (input : List ℕ) (space : PassSpace)
-    (w : Workspace) (lent_bucket left : Option BucketWords) (q : PassState) (log : Kept Change) (notes : Notes) (o : Outcome) (s t : S) where
+    (w : Workspace) (lent_bucket left : Option BucketWords) (q : PassState) (log : Kept Change) (notes : Notes) (step : PassStep) (s t : S) where
   pub making_steps : w.first.space ≡ space → q.space ≡ w.first.space →
-      Stepped gives counts told (setting_of Making behavior input w.sealed (bucket_of lent_bucket) w.first.space) w.place.index (machine_in Making w (words_of lent_bucket)) (machine_of q (words_of left) log notes) o s t →
-      StepsIn gives counts told behavior input space Making (work w lent_bucket s) (work (record w { first = q; first_log = log; notes = notes }) left t) o
+      Stepped gives counts told (setting_of Making behavior input w.sealed (bucket_of lent_bucket) w.first.space) w.place.index (machine_in Making w (words_of lent_bucket)) (machine_of q (words_of left) log notes) (outcome_of step) s t →
+      StepsIn gives counts told behavior input space Making (work w lent_bucket s) (work (record w { first = q; first_log = log; notes = notes }) left t) step
   making_steps here same st = record {
-    stepped = subst (λ (k : PassSpace). Stepped gives counts told (setting_of Making behavior input w.sealed (bucket_of lent_bucket) k) w.place.index (machine_in Making w (words_of lent_bucket)) (machine_of q (words_of left) log notes) o s t) here st;
+    stepped = subst (λ (k : PassSpace). Stepped gives counts told (setting_of Making behavior input w.sealed (bucket_of lent_bucket) k) w.place.index (machine_in Making w (words_of lent_bucket)) (machine_of q (words_of left) log notes) (outcome_of step) s t) here st;
     rest = ap (λ (p : PassState). let v : Workspace = record w { first = p; first_log = log; notes = notes } in v) (pass_again w.first q (words_of left) log notes same);
   }
 
   pub reading_steps : w.second.space ≡ space → q.space ≡ w.second.space →
-      Stepped gives counts told (setting_of Reading behavior input w.sealed (bucket_of lent_bucket) w.second.space) w.place.index (machine_in Reading w (words_of lent_bucket)) (machine_of q (words_of left) log notes) o s t →
-      StepsIn gives counts told behavior input space Reading (work w lent_bucket s) (work (record w { second = q; second_log = log; notes = notes }) left t) o
+      Stepped gives counts told (setting_of Reading behavior input w.sealed (bucket_of lent_bucket) w.second.space) w.place.index (machine_in Reading w (words_of lent_bucket)) (machine_of q (words_of left) log notes) (outcome_of step) s t →
+      StepsIn gives counts told behavior input space Reading (work w lent_bucket s) (work (record w { second = q; second_log = log; notes = notes }) left t) step
   reading_steps here same st = record {
-    stepped = subst (λ (k : PassSpace). Stepped gives counts told (setting_of Reading behavior input w.sealed (bucket_of lent_bucket) k) w.place.index (machine_in Reading w (words_of lent_bucket)) (machine_of q (words_of left) log notes) o s t) here st;
+    stepped = subst (λ (k : PassSpace). Stepped gives counts told (setting_of Reading behavior input w.sealed (bucket_of lent_bucket) k) w.place.index (machine_in Reading w (words_of lent_bucket)) (machine_of q (words_of left) log notes) (outcome_of step) s t) here st;
     rest = ap (λ (p : PassState). let v : Workspace = record w { second = p; second_log = log; notes = notes } in v) (pass_again w.second q (words_of left) log notes same);
   }
 
 -- an act of a pass is its step, and what comes after it
-module _ {S : Type 0} (gives : S → (q : Question) → Answer q → S → Type 0) (counts : S → Counts) (told : Option ℕ) (behavior : Behavior) (input : List ℕ) (space : PassSpace) (which : Which) (x y : Work S) (o : Outcome) where
-  pub pass_runs : (u : S) (z : Acted) → StepsIn gives counts told behavior input space which x y o → Runs gives (pass_from which y.workspace (words_of y.lent) o) y.core u z →
+module _ {S : Type 0} (gives : S → (q : Question) → Answer q → S → Type 0) (counts : S → Counts) (told : Option ℕ) (behavior : Behavior) (input : List ℕ) (space : PassSpace) (which : Which) (x y : Work S) (step : PassStep) where
+  pub pass_runs : (u : S) (z : Acted) → StepsIn gives counts told behavior input space which x y step → Runs gives (pass_from which y.workspace (words_of y.lent) (outcome_of step)) y.core u z →
       Timed gives told (λ now. pass_tree which (given_of behavior input space (bucket_of x.lent)) now x.workspace.place.index x.workspace (words_of x.lent)) x.core u z
   pass_runs u z st r = record {
     now = st.stepped.now;
     answer = st.stepped.answer;
     runs = runs_bound gives (step_tree (setting_in (given_of behavior input space (bucket_of x.lent)) which x.workspace.sealed st.stepped.now) x.workspace.place.index (machine_in which x.workspace (words_of x.lent))) (pass_to which x.workspace) x.core y.core u
-        (record { machine = machine_in which y.workspace (words_of y.lent); outcome = o }) z st.stepped.runs
-        (subst (λ (v : Workspace). Runs gives (pass_from which v (words_of y.lent) o) y.core u z) (sym st.rest) r);
+        (record { machine = machine_in which y.workspace (words_of y.lent); outcome = outcome_of step }) z st.stepped.runs
+        (subst (λ (v : Workspace). Runs gives (pass_from which v (words_of y.lent) (outcome_of step)) y.core u z) (sym st.rest) r);
   }

@@ -30,8 +30,8 @@ use Rattle.sei_traverse.specs.State.{TraversalState, IsTraversal}
 use Rattle.sei_traverse.specs.Step.{step_result, traversal_step}
 use Rattle.sei_traverse.specs.Trusted.{IsTrusted}
 use Rattle.sei_traverse.specs.Unstruck.{take_want, want_in, IsLent, NextIn}
-use Rattle.sei_traverse.specs.Wanting.{Steps}
-use Rattle.sei_traverse.specs.Wanting.Steps.{GoesOn}
+use Rattle.sei_traverse.specs.Wanting.{StepsFrom}
+use Rattle.sei_traverse.specs.Wanting.StepsFrom.{GoesOn}
 use Rattle.sei_traverse.proofs.Isolated.{isolates_one}
 use Rattle.sei_traverse.proofs.NotingLaws.{behind}
 use Rattle.sei_traverse.proofs.PublicSteps.{step_refuses, of_made}
@@ -222,28 +222,43 @@ module _ {S : Type 0} (gives : S → (q : Question) → Answer q → S → Type 
 
       -- the steps of a run are steps of the traversal, and what each of them wanted is known
 
-      stepped : IsTrusted e → (wants : List Want) (a b : On S) (s : Turned) → Makes gives counts told behavior input a b s → (counts b.core).struck ≤ begin.struck + 1 → IsKnown a → Steps e begin wants a.traversal Went →
-          Steps e begin (wants ++ s.want ∷ []) b.traversal s.state
-      stepped trusted wants a b s m few known steps =
-          let isolated = subst (λ (w : Want). Isolates e a.traversal b.traversal a.lent b.lent begin (counts b.core) w s.state) m.want (makes_isolated trusted a b s m few known) in
-          subst (λ (w : Want). Steps e begin (wants ++ w ∷ []) b.traversal s.state) (sym m.want) (GoesOn wants a.traversal b.traversal a.lent b.lent (counts b.core) s.state steps isolated)
+      module _ (Lending : Want → Option BucketWords → Option BucketWords → Type 0) (itself : (left : Option BucketWords) → Lending Nothing left left) (from : TraversalState) (lent : Option BucketWords) where
+        abbrev IsStepped : List Want → TraversalState → Option BucketWords → State → Type 0
+        IsStepped = StepsFrom Lending e begin from lent
 
-      chain_stepped : IsTrusted e → (wants : List Want) (n : ℕ) (x z : On S) → Chain IsQuiet n x z → (counts z.core).struck ≤ begin.struck + 1 → IsKnown x → Steps e begin wants x.traversal Went →
-          IsKnown z × Steps e begin (wants ++ replicate n Nothing) z.traversal Went
-      chain_stepped trusted wants zero x z is few known steps =
-          subst (λ (a : On S). IsKnown a × Steps e begin (wants ++ []) a.traversal Went) (sym is) (known, subst (λ (ws : List Want). Steps e begin ws x.traversal Went) (sym (append-nil wants)) steps)
-      chain_stepped trusted wants (suc n) x z (y, c, q) few known steps =
-          let before = chain_stepped trusted wants n x y c (omega (arith, q.struck, few)) known steps in (
-            quiet_known trusted y z q few before.0,
-            subst (λ (ws : List Want). Steps e begin ws z.traversal Went) (one_more_quiet wants n)
-                (stepped trusted (wants ++ replicate n Nothing) y z quiet q few before.0 before.1),
-          )
+        stepped : IsTrusted e → (wants : List Want) (a b : On S) (s : Turned) → Makes gives counts told behavior input a b s → (counts b.core).struck ≤ begin.struck + 1 → IsKnown a →
+            (left : Option BucketWords) → IsStepped wants a.traversal left Went → Lending a.traversal.workspace.want left a.lent → IsStepped (wants ++ s.want ∷ []) b.traversal b.lent s.state
+        stepped trusted wants a b s m few known left steps lends =
+            let isolated = subst (λ (w : Want). Isolates e a.traversal b.traversal a.lent b.lent begin (counts b.core) w s.state) m.want (makes_isolated trusted a b s m few known) in
+            subst (λ (w : Want). IsStepped (wants ++ w ∷ []) b.traversal b.lent s.state) (sym m.want) (GoesOn wants a.traversal b.traversal left a.lent b.lent (counts b.core) s.state steps lends isolated)
 
-      pub run_stepped : (wants : List Want) (n : ℕ) (x z : On S) (t : Turned) → IsTrusted e → RunsOn gives counts told behavior input n x z t → LendsWanted x.traversal.workspace x.lent → FaultInvariant e x.traversal (lent_words x.lent) begin (counts x.core) →
-          (counts z.core).struck ≤ begin.struck + 1 → Steps e begin wants x.traversal Went → Steps e begin ((wants ++ replicate n Nothing) ++ t.want ∷ []) z.traversal t.state
-      run_stepped wants n x z t trusted r lends facts few steps =
-          let before = chain_stepped trusted wants n x r.last r.chain (omega (arith, r.makes.struck, few)) (lends, facts) steps in
-          stepped trusted (wants ++ replicate n Nothing) r.last z t r.makes few before.0 before.1
+        -- the last of n quiet steps is known, and is lent what they left
+        record SteppedTo (wants : List Want) (n : ℕ) (z : On S) : Type 0 where
+          known : IsKnown z
+          left : Option BucketWords
+          steps : IsStepped (wants ++ replicate n Nothing) z.traversal left Went
+          lends : Lending z.traversal.workspace.want left z.lent
+
+        chain_stepped : IsTrusted e → (wants : List Want) (left : Option BucketWords) (n : ℕ) (x z : On S) → Chain IsQuiet n x z → (counts z.core).struck ≤ begin.struck + 1 → IsKnown x → IsStepped wants x.traversal left Went →
+            Lending x.traversal.workspace.want left x.lent → SteppedTo wants n z
+        chain_stepped trusted wants left zero x z is few known steps lends =
+            subst (λ (a : On S). SteppedTo wants zero a) (sym is)
+            (record { known = known; left = left; steps = subst (λ (ws : List Want). IsStepped ws x.traversal left Went) (sym (append-nil wants)) steps; lends = lends })
+        chain_stepped trusted wants left (suc n) x z (y, c, q) few known steps lends =
+            let before = chain_stepped trusted wants left n x y c (omega (arith, q.struck, few)) known steps lends in
+            record {
+              known = quiet_known trusted y z q few before.known;
+              left = z.lent;
+              steps = subst (λ (ws : List Want). IsStepped ws z.traversal z.lent Went) (one_more_quiet wants n)
+                  (stepped trusted (wants ++ replicate n Nothing) y z quiet q few before.known before.left before.steps before.lends);
+              lends = subst (λ (w : Want). Lending w z.lent z.lent) q.want (itself z.lent);
+            }
+
+        pub run_stepped : (wants : List Want) (left : Option BucketWords) (n : ℕ) (x z : On S) (t : Turned) → IsTrusted e → RunsOn gives counts told behavior input n x z t → LendsWanted x.traversal.workspace x.lent → FaultInvariant e x.traversal (lent_words x.lent) begin (counts x.core) →
+            (counts z.core).struck ≤ begin.struck + 1 → IsStepped wants x.traversal left Went → Lending x.traversal.workspace.want left x.lent → IsStepped ((wants ++ replicate n Nothing) ++ t.want ∷ []) z.traversal z.lent t.state
+        run_stepped wants left n x z t trusted r lent_bucket facts few steps lends =
+            let before = chain_stepped trusted wants left n x r.last r.chain (omega (arith, r.makes.struck, few)) (lent_bucket, facts) steps lends in
+            stepped trusted (wants ++ replicate n Nothing) r.last z t r.makes few before.known before.left before.steps before.lends
 
       -- a traversal that is on its way stays on it
 

@@ -21,7 +21,7 @@ use Rattle.sei_traverse.specs.Phases.{reply_of, send_want, closing_want}
 use Rattle.sei_traverse.specs.State.{TraversalState}
 use Rattle.sei_traverse.specs.Struck.{IsHonestResult, On}
 use Rattle.sei_traverse.specs.Wanting.{Steps, is_wanted, wanted_in, all_wants, WantsOnce}
-use Rattle.sei_traverse.specs.Wanting.Steps.{Begins, GoesOn}
+use Rattle.sei_traverse.specs.Wanting.StepsFrom.{Here, GoesOn}
 
 -- what was wanted so far, by the number of closed phases. Where it is right still, the wanted bucket is the one of which
 -- Take was closed, and the reply the one of which Send was closed
@@ -170,7 +170,7 @@ IsWanted e wants t Refused = wanted_in wants ≡ []
 IsWanted e wants t (Aborted abort) = WantsOnce e wants
 
 -- an equation of numbers that is not refuted holds
-unrefuted : (m n : ℕ) → ((m ≡ n → ⊥) → ⊥) → m ≡ n
+pub unrefuted : (m n : ℕ) → ((m ≡ n → ⊥) → ⊥) → m ≡ n
 unrefuted m n h = by_case (equal_or m n)
   where
     by_case : (m ≡ n) ⊎ (m ≢ n) → m ≡ n
@@ -219,15 +219,15 @@ module _ (e : CallContext) (begin now : Counts) (wants : List Want) (old new : T
   goes_to Refused i (inr w) = absurd w.1
   goes_to (Aborted abort) i (inr w) = none_once e (wants ++ new.workspace.want ∷ []) w.0
 
-are_wanted : (e : CallContext) (begin : Counts) (wants : List Want) (t : TraversalState) (state : State) → Steps e begin wants t state → IsWanted e wants t state
-are_wanted e begin wants t state Begins = ToNone (omega arith) refl
-are_wanted e begin wants t state (GoesOn before old new lent_bucket left now state' steps i) =
-    goes_to e begin now before old new lent_bucket left state i (goes_by e begin now before old new lent_bucket left (are_wanted e begin before old Went steps) state i i.once)
+are_wanted : (e : CallContext) (begin : Counts) (wants : List Want) (t : TraversalState) (left : Option BucketWords) (state : State) → Steps e begin wants t left state → IsWanted e wants t state
+are_wanted e begin wants t left state Here = ToNone (omega arith) refl
+are_wanted e begin wants t left state (GoesOn before old new lent_bucket next last now state' steps lends i) =
+    goes_to e begin now before old new next last state i (goes_by e begin now before old new next last (are_wanted e begin before old lent_bucket Went steps) state i i.once)
 
 -- The clauses.
 
-pub wanted_at_most_once : (e : CallContext) (begin : Counts) (wants : List Want) (t : TraversalState) (state : State) → Steps e begin wants t state → WantsOnce e wants
-wanted_at_most_once e begin wants t state steps = by_state state (are_wanted e begin wants t state steps)
+pub wanted_at_most_once : (e : CallContext) (begin : Counts) (wants : List Want) (t : TraversalState) (left : Option BucketWords) (state : State) → Steps e begin wants t left state → WantsOnce e wants
+wanted_at_most_once e begin wants t left state steps = by_state state (are_wanted e begin wants t left state steps)
   where
     by_state : (s : State) → IsWanted e wants t s → WantsOnce e wants
     by_state Went h = wanted_once e t.workspace (IsRight t.workspace) wants h
@@ -235,8 +235,8 @@ wanted_at_most_once e begin wants t state steps = by_state state (are_wanted e b
     by_state Refused h = none_once e wants h
     by_state (Aborted abort) h = h
 
-pub finished_wants : (e : CallContext) (begin : Counts) (wants : List Want) (t : TraversalState) → Steps e begin wants t Finished → wanted_in wants ≡ all_wants e.call.bucket (reply_of t.workspace)
-finished_wants e begin wants t steps = are_wanted e begin wants t Finished steps
+pub finished_wants : (e : CallContext) (begin : Counts) (wants : List Want) (t : TraversalState) (left : Option BucketWords) → Steps e begin wants t left Finished → wanted_in wants ≡ all_wants e.call.bucket (reply_of t.workspace)
+finished_wants e begin wants t left steps = are_wanted e begin wants t left Finished steps
 
-pub refused_wants : (e : CallContext) (begin : Counts) (wants : List Want) (t : TraversalState) → Steps e begin wants t Refused → wanted_in wants ≡ []
-refused_wants e begin wants t steps = are_wanted e begin wants t Refused steps
+pub refused_wants : (e : CallContext) (begin : Counts) (wants : List Want) (t : TraversalState) (left : Option BucketWords) → Steps e begin wants t left Refused → wanted_in wants ≡ []
+refused_wants e begin wants t left steps = are_wanted e begin wants t left Refused steps

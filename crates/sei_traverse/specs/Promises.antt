@@ -3,6 +3,7 @@ use Rattle.std.specs.Prelude.{◌≡◌, ℕ, ◌+◌, ◌≤◌, List, [], ◌�
 use Rattle.sei_fault.specs.Counts.{Counts}
 use Rattle.sei_fault.specs.Question.{Question, Answer}
 use Rattle.sei_stmt.specs.Handling.{Behavior}
+use Rattle.sei_words.specs.Words.{BucketWords}
 use Rattle.sei_traverse.specs.declared.turned.State.{State}
 use Rattle.sei_traverse.specs.declared.turned.State.TheVariants.{Went, Refused}
 use Rattle.sei_traverse.specs.declared.turned.Turned.{Turned}
@@ -15,8 +16,9 @@ use Rattle.sei_traverse.specs.Given.{given_of}
 use Rattle.sei_traverse.specs.Noting.{NotesTime}
 use Rattle.sei_traverse.specs.OnWay.{lent_words, Lends, TellsAs, OnWay, StaysOnWay, IsUnfit}
 use Rattle.sei_traverse.specs.Running.{On, StepsTo, RunsOn}
+use Rattle.sei_traverse.specs.State.{TraversalState}
 use Rattle.sei_traverse.specs.Trusted.{IsTrusted}
-use Rattle.sei_traverse.specs.Wanting.{Steps}
+use Rattle.sei_traverse.specs.Wanting.{StepsFrom, Steps, LendsNext}
 
 -- with one strike at most, the number of steps stays bounded
 abbrev pub KeepsBound : {S : Type 0} → (S → Counts) → On S → On S → Turned → Type 0
@@ -41,23 +43,32 @@ LastOnWay counts told behavior input x last z t =
 abbrev pub KeepsOnWay : {S : Type 0} → (S → Counts) → Option ℕ → Behavior → List ℕ → On S → On S → Turned → Type 0
 KeepsOnWay counts told behavior input x y t = LastOnWay counts told behavior input x x y t
 
--- if one strike at most has struck x, and at most one has fallen in the end, the step from `last` is isolated
-abbrev pub LastIsolated : {S : Type 0} → (S → Counts) → Option ℕ → Behavior → List ℕ → On S → On S → On S → Turned → Type 0
-LastIsolated counts told behavior input x last z t =
+-- if one strike at most has struck x, and at most one has fallen in the end, this holds for the call context and the counts
+abbrev pub IfIsolated : {S : Type 0} → (S → Counts) → Option ℕ → Behavior → List ℕ → On S → On S → (CallContext → Counts → Type 0) → Type 0
+IfIsolated counts told behavior input x z Holds =
     (e : CallContext) (begin : Counts) → IsTrusted e → TellsAs e.clock told → e.behavior ≡ behavior → e.input ≡ input →
-    LendsWanted x.traversal.workspace x.lent → FaultInvariant e x.traversal (lent_words x.lent) begin (counts x.core) → (counts z.core).struck ≤ begin.struck + 1 →
-    Isolates e last.traversal z.traversal last.lent z.lent begin (counts z.core) t.want t.state
+    LendsWanted x.traversal.workspace x.lent → FaultInvariant e x.traversal (lent_words x.lent) begin (counts x.core) → (counts z.core).struck ≤ begin.struck + 1 → Holds e begin
+
+-- and the step from `last` is isolated
+abbrev pub LastIsolated : {S : Type 0} → (S → Counts) → Option ℕ → Behavior → List ℕ → On S → On S → On S → Turned → Type 0
+LastIsolated counts told behavior input x last z t = IfIsolated counts told behavior input x z (λ e begin.
+    Isolates e last.traversal z.traversal last.lent z.lent begin (counts z.core) t.want t.state)
 
 -- if one strike at most has struck x, the step to y is isolated
 abbrev pub KeepsIsolated : {S : Type 0} → (S → Counts) → Option ℕ → Behavior → List ℕ → On S → On S → Turned → Type 0
 KeepsIsolated counts told behavior input x y t = LastIsolated counts told behavior input x x y t
 
--- if the steps up to x are steps of the traversal, so are the n that want nothing, and the last one
+-- if it is the traversal's steps that come to x, they go on by the n that want nothing, and the last one
 abbrev pub KeepsSteps : {S : Type 0} → (S → Counts) → Option ℕ → Behavior → List ℕ → ℕ → On S → On S → Turned → Type 0
-KeepsSteps counts told behavior input n x z t =
-    (e : CallContext) (begin : Counts) → IsTrusted e → TellsAs e.clock told → e.behavior ≡ behavior → e.input ≡ input →
-    LendsWanted x.traversal.workspace x.lent → FaultInvariant e x.traversal (lent_words x.lent) begin (counts x.core) → (counts z.core).struck ≤ begin.struck + 1 →
-    (wants : List Want) → Steps e begin wants x.traversal Went → Steps e begin ((wants ++ replicate n Nothing) ++ t.want ∷ []) z.traversal t.state
+KeepsSteps counts told behavior input n x z t = IfIsolated counts told behavior input x z (λ e begin.
+    (wants : List Want) (left : Option BucketWords) → Steps e begin wants x.traversal left Went → Steps e begin ((wants ++ replicate n Nothing) ++ t.want ∷ []) z.traversal z.lent t.state)
+
+-- the same of steps from any traversal on that are each lent what is left, if x is lent what those up to it left
+abbrev pub KeepsLending : {S : Type 0} → (S → Counts) → Option ℕ → Behavior → List ℕ → ℕ → On S → On S → Turned → Type 0
+KeepsLending counts told behavior input n x z t = IfIsolated counts told behavior input x z (λ e begin.
+    (from : TraversalState) (lent : Option BucketWords) (wants : List Want) (left : Option BucketWords) →
+    StepsFrom LendsNext e begin from lent wants x.traversal left Went → LendsNext x.traversal.workspace.want left x.lent →
+    StepsFrom LendsNext e begin from lent ((wants ++ replicate n Nothing) ++ t.want ∷ []) z.traversal z.lent t.state)
 
 -- without a strike on the way, from Guard an input that does not pass its tests is refused
 abbrev pub RefusesUnfit : {S : Type 0} → (S → Counts) → Behavior → List ℕ → On S → On S → Turned → Type 0

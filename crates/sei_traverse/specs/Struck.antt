@@ -154,7 +154,8 @@ ComesOn e w found words o n = after (setting_on e w.wanted) (start_on e found w.
 pub data SecondStruck (e : CallContext) (w : Workspace) (words : List ℕ) (o : Outcome) (asked : ℕ) : Type 0 where
   Good : IsNoted e w.notes.now → (n : ℕ) → ComesOn e w e.taken words o n →
       first_weighed (setting_on e w.wanted) (start_on e e.taken w.notes) n + asked_behind o ≤ asked → SecondStruck e w words o asked
-  Misread : (end : Machine) → WasMisread e w end asked → (found : List ℕ) → SameOff w.first_log.items found e.taken → (n : ℕ) → ComesOn e w found words o n → SecondStruck e w words o asked
+  Misread : (end : Machine) → WasMisread e w end asked →
+      (found : List ℕ) → SameOff w.first_log.items found e.taken → (n : ℕ) → ComesOn e w found words o n → SecondStruck e w words o asked
   Damaged : (end : Machine) → WasHonest e w end asked → (place : ℕ) (c : Change) → Stands w.first_log.items place c →
       (found : List ℕ) → slice_get found c.address ≢ Some c.was → (n : ℕ) → ComesOn e w found words o n → SecondStruck e w words o asked
   Struck : (end : Machine) → WasHonest e w end asked → SameOff w.second_log.items words e.taken → SecondStruck e w words o asked

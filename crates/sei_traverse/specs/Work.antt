@@ -6,9 +6,10 @@ use Rattle.sei_fault.specs.Tree.{Tree, Runs}
 use Rattle.sei_words.specs.LentBucket.{words_of, bucket_of}
 use Rattle.sei_words.specs.Words.{BucketWords}
 use Rattle.sei_stmt.specs.Handling.{Behavior}
-use Rattle.sei_stmt.specs.Machine.{Outcome}
+use Rattle.sei_pass.specs.declared.frame.PassStep.{PassStep}
 use Rattle.sei_pass.specs.declared.given.Which.{Which}
 use Rattle.sei_pass.specs.declared.spaces.PassSpace.{PassSpace}
+use Rattle.sei_pass.specs.Frames.{outcome_of}
 use Rattle.sei_pass.specs.Steps.{Stepped}
 use Rattle.sei_traverse.specs.declared.turned.State.{State}
 use Rattle.sei_traverse.specs.declared.workspace.Ending.{Ending}
@@ -58,7 +59,7 @@ TurnsAs gives told behavior input space tree x y state = ComesTo gives told beha
 
 -- the step of a pass at this place leads from x to y, and comes to this; it changes the pass, its log and the notes alone
 pub record StepsIn {S : Type 0} (gives : S → (q : Question) → Answer q → S → Type 0) (counts : S → Counts) (told : Option ℕ) (behavior : Behavior) (input : List ℕ)
-    (space : PassSpace) (which : Which) (x y : Work S) (o : Outcome) : Type 0 where
+    (space : PassSpace) (which : Which) (x y : Work S) (step : PassStep) : Type 0 where
   pub stepped : Stepped gives counts told (setting_in (given_of behavior input space (bucket_of x.lent)) which x.workspace.sealed) x.workspace.place.index
-      (machine_in which x.workspace (words_of x.lent)) (machine_in which y.workspace (words_of y.lent)) o x.core y.core
+      (machine_in which x.workspace (words_of x.lent)) (machine_in which y.workspace (words_of y.lent)) (outcome_of step) x.core y.core
   pub rest : with_machine which x.workspace (machine_in which y.workspace (words_of y.lent)) ≡ y.workspace

@@ -6,19 +6,20 @@ ghost use Rattle.sei_pass.specs.declared.spaces.PassSpace.{PassSpace};
 ghost use Rattle.sei_pass.specs.declared.given.Sealed.{Sealed};
 ghost use Rattle.sei_stmt.specs.Handling.{Behavior};
 ghost use Rattle.sei_words.specs.LentBucket.{place_of};
+ghost use Rattle.sei_words.specs.Words.{BucketWords};
 ghost use Rattle.sei_traverse.specs.Bounds.{honest_steps, most_steps, StepsWithin};
 ghost use Rattle.sei_traverse.specs.CallContext.{CallContext, IsCallContext};
 ghost use Rattle.sei_traverse.specs.FaultInvariant.{FaultInvariant};
-ghost use Rattle.sei_traverse.specs.OnWay.{OnWay, AtEnd};
+ghost use Rattle.sei_traverse.specs.OnWay.{lent_words, OnWay, AtEnd};
 ghost use Rattle.sei_traverse.specs.Phases.{reply_of};
-ghost use Rattle.sei_traverse.specs.Promises.{KeepsBound, KeepsRoom, KeepsTime, KeepsOnWay, LastOnWay, KeepsIsolated, LastIsolated, KeepsSteps, RefusesUnfit};
+ghost use Rattle.sei_traverse.specs.Promises.{KeepsBound, KeepsRoom, KeepsTime, KeepsOnWay, LastOnWay, KeepsIsolated, LastIsolated, KeepsSteps, KeepsLending, RefusesUnfit};
 ghost use Rattle.sei_traverse.specs.Promises.{OfEachStep, OfEachRun, EachRunKeeps};
 ghost use Rattle.sei_traverse.specs.Running.{On, Makes};
 ghost use Rattle.sei_traverse.specs.Served.{IfUnstruckIn, IsServed, HasReply};
 ghost use Rattle.sei_traverse.specs.Sound.{IsServedBy, GivesModelAnswer};
 ghost use Rattle.sei_traverse.specs.State.{TraversalState, IsTraversal, begun_traversal};
 ghost use Rattle.sei_traverse.specs.Trusted.{IsTrusted, PassesGuard};
-ghost use Rattle.sei_traverse.specs.Wanting.{Steps, WantsOnce, wanted_in, all_wants};
+ghost use Rattle.sei_traverse.specs.Wanting.{Steps, OfWhatIsEntered, WantsOnce, WantsAll, wanted_in};
 ghost use Rattle.sei_traverse.specs.declared.turned.State.{State};
 ghost use Rattle.sei_traverse.specs.declared.turned.Turned.{Turned};
 ghost use Rattle.sei_traverse.specs.declared.turned.Want.{Want};
@@ -78,10 +79,20 @@ pub fn one_strike_is_isolated<K: Core>()
 /// finished, all of them were wanted, but for `Send` where its reply is empty; and where it is refused,
 /// none was.
 pub fn wants_come_once()
-    ensures once { (e : CallContext) (begin : Counts) (wants : List Want) (t : TraversalState) (state : State) → Steps e begin wants t state → WantsOnce e wants }
-    ensures finished { (e : CallContext) (begin : Counts) (wants : List Want) (t : TraversalState) → Steps e begin wants t State.Finished →
-        wanted_in wants ≡ all_wants e.call.bucket (reply_of t.workspace) }
-    ensures refused { (e : CallContext) (begin : Counts) (wants : List Want) (t : TraversalState) → Steps e begin wants t State.Refused → wanted_in wants ≡ [] }
+    ensures once { (e : CallContext) (begin : Counts) (wants : List Want) (t : TraversalState) (left : Option BucketWords) (state : State) →
+        Steps e begin wants t left state → WantsOnce e wants }
+    ensures finished { (e : CallContext) (begin : Counts) (wants : List Want) (t : TraversalState) (left : Option BucketWords) →
+        Steps e begin wants t left State.Finished → WantsAll e wants t }
+    ensures refused { (e : CallContext) (begin : Counts) (wants : List Want) (t : TraversalState) (left : Option BucketWords) →
+        Steps e begin wants t left State.Refused → wanted_in wants ≡ [] }
+{}
+
+/// What is entered is given back and sent: the words that are left when `Give` is wanted are those that
+/// were left when `Enter` was, and the reply is the same when `Send` is wanted, and at the end.
+pub fn what_is_entered_stays()
+    ensures given { OfWhatIsEntered (λ x lent y left state. y.workspace.want ≡ Want.Give → lent_words left ≡ lent_words lent) }
+    ensures sent { OfWhatIsEntered (λ x lent y left state. y.workspace.want ≡ Want.Send → reply_of y.workspace ≡ reply_of x.workspace) }
+    ensures finished { OfWhatIsEntered (λ x lent y left state. state ≡ State.Finished → reply_of y.workspace ≡ reply_of x.workspace) }
 {}
 
 /// What each step keeps, a run of many steps keeps: what is sealed, the space and the place of what is
@@ -110,13 +121,15 @@ pub fn clocks_are_noted<K: Core>()
 
 /// A run of many steps goes as its steps do. With one strike at most its steps are bounded. From a
 /// traversal that is on its way, its last step stays on it; and from one that at most one strike has
-/// struck, its last step is isolated. All its steps are steps of the traversal, of which only the last
-/// may want anything. Without a strike an input that does not pass the tests of `Guard` is refused.
+/// struck, its last step is isolated. All its steps are steps of the traversal, each lent what the one
+/// before it left, and only the last may want anything. Without a strike an
+/// input that does not pass the tests of `Guard` is refused.
 pub fn runs_go_as_steps_go<K: Core>()
     ensures within { OfEachRun K.gives K.counts (λ told behavior input n x last z t. IsTraversal x.traversal → KeepsBound K.counts x z t) }
     ensures on_way { OfEachRun K.gives K.counts (λ told behavior input n x last z t. LastOnWay K.counts told behavior input x last z t) }
     ensures isolated { OfEachRun K.gives K.counts (λ told behavior input n x last z t. LastIsolated K.counts told behavior input x last z t) }
     ensures wanted { OfEachRun K.gives K.counts (λ told behavior input n x last z t. KeepsSteps K.counts told behavior input n x z t) }
+    ensures lending { OfEachRun K.gives K.counts (λ told behavior input n x last z t. KeepsLending K.counts told behavior input n x z t) }
     ensures refused { OfEachRun K.gives K.counts (λ told behavior input n x last z t. RefusesUnfit K.counts behavior input x z t) }
 {}
 

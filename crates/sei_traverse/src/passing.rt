@@ -1,7 +1,6 @@
 //! The acts of the two passes.
 ghost use Rattle.std.specs.Prelude.{◌≡◌};
 ghost use Rattle.sei_words.specs.LentBucket.{place_of, IsOf};
-ghost use Rattle.sei_pass.specs.Frames.{outcome_of};
 ghost use Rattle.sei_traverse.specs.PassActs.{pass_phase, passing};
 ghost use Rattle.sei_traverse.specs.Work.{work, ActsAs, StepsIn};
 ghost use Rattle.sei_traverse.specs.Workspaces.{IsWorkspace, FitsIn, Stays};
@@ -42,7 +41,7 @@ impl Workspace {
         requires room { FitsIn space.now ((H.behavior hands.now).parsed input.now) self.old.sealed }
         requires lent { IsOf space.now.geometry (L.lent_bucket lent.old) }
         ensures steps { StepsIn K.gives K.counts (C.told clock.now) (H.behavior hands.now) input.now space.now which
-            (work self.old (L.lent_bucket lent.old) core.old) (work self.new (L.lent_bucket lent.new) core.new) (outcome_of result) }
+            (work self.old (L.lent_bucket lent.old) core.old) (work self.new (L.lent_bucket lent.new) core.new) result }
         ensures lent { place_of (L.lent_bucket lent.new) ≡ place_of (L.lent_bucket lent.old) }
         ensures stays { Stays self.old self.new }
         ensures place { self.new.place ≡ self.old.place }

@@ -1,6 +1,6 @@
 use Rattle.std.proofs.Common.{refl, ap}
 use Rattle.sei_fault.specs.declared.place.Phase.{Phase}
-use Rattle.sei_stmt.specs.Machine.Outcome.{Next, Halted, Bad}
+use Rattle.sei_pass.specs.declared.frame.PassStep.TheVariants.{Next, Halted, Bad}
 use Rattle.sei_words.specs.LentBucket.{words_of}
 use Rattle.sei_traverse.specs.declared.workspace.Ending.TheVariants.{Leads}
 use Rattle.sei_traverse.specs.Acts.{acted, at}
