@@ -1,7 +1,7 @@
 -- What a traversal holds.
 use Rattle.std.specs.Prelude.{◌≡◌, ℕ, ◌+◌, ◌-◌, ◌^◌, Bool, true, false, Option, min}
 use Rattle.std.specs.Option.{option_and_then}
-use Rattle.sei_code.specs.Coded.{read_of}
+use Rattle.sei_code.specs.Coded.{read_of, sealed}
 use Rattle.sei_code.specs.Kept.{empty_kept}
 use Rattle.sei_log.specs.declared.log.Change.{Change}
 use Rattle.sei_pass.specs.declared.spaces.PassSpace.{PassSpace}
@@ -45,6 +45,14 @@ begun_workspace space sealed = record {
 
 abbrev pub begun_traversal : PassSpace → Sealed → TraversalState
 begun_traversal space sealed = record { workspace = begun_workspace space sealed; space = space; steps = 0; running = true }
+
+-- before the first begin nothing is sealed, and it does not run
+
+abbrev pub unsealed : Sealed
+unsealed = record { number = 0; nth = sealed 0; code = 0; answer = 0 }
+
+abbrev pub new_traversal : PassSpace → TraversalState
+new_traversal space = record { workspace = begun_workspace space unsealed; space = space; steps = 0; running = false }
 
 -- one step more; at the last value of a u64 the number stays
 abbrev pub one_more : ℕ → ℕ

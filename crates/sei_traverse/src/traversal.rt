@@ -9,7 +9,7 @@ ghost use Rattle.sei_traverse.specs.Bounds.{most_steps};
 ghost use Rattle.sei_traverse.specs.Phases.{reply_of};
 ghost use Rattle.sei_traverse.specs.Promises.{KeepsBound, KeepsRoom, KeepsOnWay, KeepsIsolated, RefusesUnfit};
 ghost use Rattle.sei_traverse.specs.Running.{on, Makes, RunsOn};
-ghost use Rattle.sei_traverse.specs.State.{IsTraversal, begun_traversal, noted_time};
+ghost use Rattle.sei_traverse.specs.State.{IsTraversal, begun_traversal, new_traversal, noted_time};
 ghost use Rattle.sei_traverse.specs.Workspaces.{FitsIn};
 
 use crate::turned::{Many, State, Turned, Want};
@@ -65,6 +65,7 @@ impl Traversal {
         requires { IsValid g.now }
         ensures space { IfOk result (λ t. t.space ≡ pass_space g.now) }
         ensures running { IfOk result (λ t. t.running ≡ false) }
+        ensures fresh { IfOk result (λ t. t ≡ new_traversal (pass_space g.now)) }
     {
         Ok(Traversal {
             workspace: Workspace::new(alloc, g)?,

@@ -6,6 +6,7 @@ ghost use Rattle.sei_log.specs.declared.log.Change.{Change};
 ghost use Rattle.sei_pass.specs.Spaces.{pass_space};
 ghost use Rattle.sei_pass.specs.State.{new_pass};
 ghost use Rattle.sei_traverse.specs.Acts.{closes};
+ghost use Rattle.sei_traverse.specs.State.{begun_workspace, unsealed};
 ghost use Rattle.sei_traverse.specs.Work.{ActsAlone};
 ghost use Rattle.sei_traverse.specs.Workspaces.{IsWorkspace, Stays};
 
@@ -79,6 +80,7 @@ impl Workspace {
         requires { IsValid g.now }
         ensures workspace { IfOk result IsWorkspace }
         ensures space { IfOk result (λ workspace. workspace.first.space ≡ pass_space g.now) }
+        ensures fresh { IfOk result (λ workspace. workspace ≡ begun_workspace (pass_space g.now) unsealed) }
     {
         let space = PassSpace::new(g, g.value_words);
         let (first_log, second_log) = logs(alloc, &space)?;
