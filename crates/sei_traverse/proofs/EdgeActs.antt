@@ -26,7 +26,7 @@ use Rattle.sei_traverse.specs.declared.workspace.Ending.TheVariants.{Leads, Refu
 use Rattle.sei_traverse.specs.declared.workspace.Workspace.{Workspace}
 use Rattle.sei_traverse.specs.Acts.{acted, ends, at, closes}
 use Rattle.sei_traverse.specs.Comes.{Agrees, Comes}
-use Rattle.sei_traverse.specs.CallContext.{CallContext, TellsTime, Follows, IsCallContext, given_in, first_setting, first_start}
+use Rattle.sei_traverse.specs.CallContext.{CallContext, TellsTime, Follows, IsFitContext, given_in, first_setting, first_start}
 use Rattle.sei_pass.specs.declared.given.Which.TheVariants.{Making}
 use Rattle.sei_traverse.specs.PassActs.{machine_in}
 use Rattle.sei_traverse.specs.Phases.{guard_tree, guard_call, take_tree, take_wanted, send_want}
@@ -94,7 +94,7 @@ guard_passes g w words intact has gate =
     ∙ closes_then Guard w words (λ v. ends (record v { want = Nothing }) words (Leads (at Take 0))) gate
 
 -- Guard lets a call of the sealed input pass
-pub guard_on : (e : CallContext) (ie : IsCallContext e) (now : ℕ) (bucket : Option ℕ) (w : Workspace) (words : List ℕ) (steps asked : ℕ) → InGuard e w steps asked →
+pub guard_on : (e : CallContext) (ie : IsFitContext e) (now : ℕ) (bucket : Option ℕ) (w : Workspace) (words : List ℕ) (steps asked : ℕ) → InGuard e w steps asked →
     GoesOn e (given_of e.behavior e.input e.space bucket) now Guard w words (λ left. None) steps asked
 guard_on e ie now bucket w words steps asked i = record {
   act = Plain;
@@ -144,7 +144,7 @@ take_wants g w words index h gate small =
     ∙ ap (λ (yes : Bool). honest (if yes then ends (record (closed_workspace w) { want = WantTake w.wanted }) words (Leads (at First 0)) else ends (closed_workspace w) words (Aborts (Range w.wanted))))
     (below w.wanted g.space.geometry.buckets small)
 
-module _ (e : CallContext) (ie : IsCallContext e) (now : ℕ) (bucket : Option ℕ) (w : Workspace) (words : List ℕ) (steps asked : ℕ) (nothing : w.want ≡ Nothing) (i : InTake e w steps asked) where
+module _ (e : CallContext) (ie : IsFitContext e) (now : ℕ) (bucket : Option ℕ) (w : Workspace) (words : List ℕ) (steps asked : ℕ) (nothing : w.want ≡ Nothing) (i : InTake e w steps asked) where
   call_bucket : bucket_of_call (lending e bucket) w.sealed ≡ e.call.bucket
   call_bucket = ap (λ (s : Sealed). bucket_of_call (lending e bucket) s) i.is.sealed ∙ ap (λ (o : Option Parsed). bucket_or_zero (parsed_bucket o)) ie.called
 

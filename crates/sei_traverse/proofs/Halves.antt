@@ -11,7 +11,7 @@ use Rattle.sei_traverse.specs.declared.workspace.Workspace.{Workspace}
 use Rattle.sei_traverse.specs.CallContext.{CallContext, Whole}
 use Rattle.sei_traverse.specs.FaultInvariant.{Knows, Wanted, IsLikeWorkspace}
 use Rattle.sei_traverse.specs.Phases.{reply_of, send_want, closing_want}
-use Rattle.sei_traverse.specs.Struck.{IsAimed, IsHonestResult, HasCopyOfSome, On}
+use Rattle.sei_traverse.specs.Struck.{IsAimed, IsHonestResult, HasCopyOfSome, OnLent}
 use Rattle.sei_traverse.specs.Trusted.{IsTrusted}
 use Rattle.sei_traverse.specs.Unstruck.{SecondIsDone, HasOutput, InBoth, CleanIn, first_questions}
 use Rattle.sei_traverse.proofs.ClosesNext.{ClosesNext}
@@ -47,9 +47,9 @@ module _ (e : CallContext) (trusted : IsTrusted e) (w v : Workspace) (like : IsL
   second_on : SecondIsDone e w end → SecondIsDone e v end
   second_on s = record { second = like.second ∙ s.second; second_log = like.second_log ∙ s.second_log }
 
-  words_half : InBoth e w lent time made end asked → On left (λ (words : List ℕ). IsHonestResult e v words (first_questions e time made))
+  words_half : InBoth e w lent time made end asked → OnLent left (λ (words : List ℕ). IsHonestResult e v words (first_questions e time made))
   words_half b =
-      subst (λ (l : Option (List ℕ)). On l (λ (words : List ℕ). IsHonestResult e v words (first_questions e time made))) (sym (same ∙ b.words))
+      subst (λ (l : Option (List ℕ)). OnLent l (λ (words : List ℕ). IsHonestResult e v words (first_questions e time made))) (sym (same ∙ b.words))
       (answers_half e trusted v time made end aimed_on b.whole (second_on b.second) (like.notes ∙ b.first.notes))
 
   answered_on : HasOutput e w time made end asked → HasOutput e v time made end asked

@@ -13,7 +13,7 @@ use Rattle.sei_traverse.specs.FaultInvariant.{IsRight, LendsWanted, LendsOn, Wan
 use Rattle.sei_traverse.specs.FaultInvariant.ClosesOnce.{Stays, Closes, Lacks}
 use Rattle.sei_traverse.specs.OnWay.{lent_words, LendsBucket, LendsBucketOf, LendsIn}
 use Rattle.sei_traverse.specs.Phases.{reply_of, send_want, closing_want}
-use Rattle.sei_traverse.specs.Struck.{IsHonestResult, On}
+use Rattle.sei_traverse.specs.Struck.{IsHonestResult, OnLent}
 use Rattle.sei_traverse.proofs.ActKeeps.{IsNoStore}
 use Rattle.sei_traverse.proofs.ClosesNext.{ClosesNext}
 use Rattle.sei_traverse.proofs.ClosesNext.ClosesNext.{Stays as StaysAt, Closes as ClosesAt, Lacks as LacksAt}
@@ -101,7 +101,7 @@ module _ (e : CallContext) (old new : Workspace) (right : IsRight old) (lent_buc
 
   -- the lent bucket is the call's
 
-  of_answers : (lent : Option BucketWords) (asked : ℕ) → LendsBucketOf new.wanted lent → On (lent_words lent) (λ words. IsHonestResult e new words asked) → LendsBucket e lent
+  of_answers : (lent : Option BucketWords) (asked : ℕ) → LendsBucketOf new.wanted lent → OnLent (lent_words lent) (λ words. IsHonestResult e new words asked) → LendsBucket e lent
   of_answers None asked h answers = absurd h
   of_answers (Some b) asked h answers = h ∙ answers.aimed.wanted
 

@@ -10,7 +10,7 @@ use Rattle.sei_traverse.specs.declared.turned.Want.TheVariants.{Nothing, Take as
 use Rattle.sei_traverse.specs.declared.workspace.Workspace.{Workspace}
 use Rattle.sei_traverse.specs.CallContext.{CallContext}
 use Rattle.sei_traverse.specs.FaultInvariant.{Wanted}
-use Rattle.sei_traverse.specs.Struck.{IsAimed, IsHonestResult, FirstStruck, FirstStands, WasHonest, WasMisread, RestoreStruck, SecondStruck, CompareStruck, WordsStruck, VerifyStruck, HasCopy, HasCopyOfSome, On, StruckIn}
+use Rattle.sei_traverse.specs.Struck.{IsAimed, IsHonestResult, FirstStruck, FirstStands, WasHonest, WasMisread, RestoreStruck, SecondStruck, CompareStruck, WordsStruck, VerifyStruck, HasCopy, HasCopyOfSome, OnLent, StruckIn}
 use Rattle.sei_traverse.specs.Struck.FirstStruck.{Restorable, Misread}
 use Rattle.sei_traverse.specs.Struck.RestoreStruck.{Restorable as RestorableR, Misread as MisreadR, Damaged as DamagedR}
 use Rattle.sei_traverse.specs.Struck.SecondStruck.{Good, Misread as MisreadS, Damaged as DamagedS, Struck as StruckS}
@@ -19,7 +19,7 @@ use Rattle.sei_traverse.specs.Struck.WordsStruck.{Fine as FineW, Doubt as DoubtW
 use Rattle.sei_traverse.specs.Unstruck.{FirstIsNew, SecondIsNew}
 use Rattle.sei_traverse.proofs.ActKeeps.{IsLike}
 
-pub on_map : (lent : Option (List ℕ)) (P Q : List ℕ → Type 0) → ((words : List ℕ) → P words → Q words) → On lent P → On lent Q
+pub on_map : (lent : Option (List ℕ)) (P Q : List ℕ → Type 0) → ((words : List ℕ) → P words → Q words) → OnLent lent P → OnLent lent Q
 on_map None P Q f h = h
 on_map (Some words) P Q f h = f words h
 

@@ -18,7 +18,7 @@ use Rattle.sei_traverse.specs.declared.turned.State.TheVariants.{Went, Finished,
 use Rattle.sei_traverse.specs.declared.turned.Want.TheVariants.{Nothing}
 use Rattle.sei_traverse.specs.declared.workspace.Workspace.{Workspace}
 use Rattle.sei_traverse.specs.Acts.{at}
-use Rattle.sei_traverse.specs.CallContext.{CallContext, IsCallContext, TellsTime, Follows, given_in}
+use Rattle.sei_traverse.specs.CallContext.{CallContext, IsFitContext, TellsTime, Follows, given_in}
 use Rattle.sei_traverse.specs.OnWay.{lent_words, Lends, TellsAs, IsClean, OnWay, IsCleanEnd, OnWayAfter, StaysOnWay, IsUnfit}
 use Rattle.sei_traverse.specs.Given.{Given, given_of, FailsGuard}
 use Rattle.sei_stmt.specs.Handling.{Behavior}
@@ -52,7 +52,7 @@ of_bucket : (e : CallContext) (now : ℕ) (w : Workspace) (b : BucketWords) (ste
 of_bucket e now w b steps asked p h a =
     inl (subst (λ (n : ℕ). GoesOn e (given_of e.behavior e.input e.space (Some n)) now p w b.words (λ left. Some left) steps asked) (sym h) a)
 
-module _ (e : CallContext) (ie : IsCallContext e) (now : ℕ) (small : now < 2 ^ 64) (told : Follows e.clock now) (w : Workspace) (nothing : w.want ≡ Nothing) (steps asked : ℕ) where
+module _ (e : CallContext) (ie : IsFitContext e) (now : ℕ) (small : now < 2 ^ 64) (told : Follows e.clock now) (w : Workspace) (nothing : w.want ≡ Nothing) (steps asked : ℕ) where
   pub acts_on : (lent_bucket : Option BucketWords) (p : Phase) → Lends e p lent_bucket → CleanIn e w (lent_words lent_bucket) steps asked p → ActsOn e now w lent_bucket steps asked p
   acts_on None Guard h i = inl (guard_on e ie now None w (words_of None) steps asked i)
   acts_on None Take h i = inl (take_on e ie now None w (words_of None) steps asked nothing i)
@@ -114,7 +114,7 @@ data Honestly (e : CallContext) (old new : TraversalState) (lent : Option (List 
   Goes : state ≡ Went → IsClean e new lent begin now → new.workspace.want ≡ want_in e old.workspace old.workspace.place.phase → NextIn old.workspace.place.phase old.workspace.place.index new.workspace.place.phase → Honestly e old new lent begin now state
   Ends : state ≡ Finished → IsCleanEnd e new begin now → new.workspace.want ≡ want_in e old.workspace old.workspace.place.phase → NextIn old.workspace.place.phase old.workspace.place.index new.workspace.place.phase → Honestly e old new lent begin now state
 
-module _ (e : CallContext) (ie : IsCallContext e) (begin c d : Counts) (old new : TraversalState) (lent_bucket left : Option BucketWords) (state : State) (now later : ℕ) (small : now < 2 ^ 64) (told : Follows e.clock now)
+module _ (e : CallContext) (ie : IsFitContext e) (begin c d : Counts) (old new : TraversalState) (lent_bucket left : Option BucketWords) (state : State) (now later : ℕ) (small : now < 2 ^ 64) (told : Follows e.clock now)
     (lends : Lends e old.workspace.place.phase lent_bucket) (same : place_of left ≡ place_of lent_bucket) (space : new.space ≡ old.space) (steps : new.steps ≡ one_more old.steps)
     (run : Runs any_core (traversal_step (given_with e lent_bucket) now later old.workspace (words_of lent_bucket)) c d (step_result new.workspace (words_of left) state))
     (clean : IsClean e old (lent_words lent_bucket) begin c) (unstruck : d.struck ≡ c.struck) where
@@ -227,7 +227,7 @@ pub stays_on_way : {S : Type 0} (gives : S → (q : Question) → Answer q → S
     (told : Option ℕ) (e : CallContext) (begin : Counts) (old new : TraversalState) (lent_bucket left : Option BucketWords) (state : State) (s t : S) →
     TimedTwice gives told (λ now later. traversal_step (given_of e.behavior e.input old.space (bucket_of lent_bucket)) now later old.workspace (words_of lent_bucket)) s t (step_result new.workspace (words_of left) state) →
     place_of left ≡ place_of lent_bucket → new.space ≡ old.space → new.steps ≡ one_more old.steps →
-    IsCallContext e → TellsAs e.clock told → Lends e old.workspace.place.phase lent_bucket → OnWay e old (lent_words lent_bucket) begin (counts s) →
+    IsFitContext e → TellsAs e.clock told → Lends e old.workspace.place.phase lent_bucket → OnWay e old (lent_words lent_bucket) begin (counts s) →
     StaysOnWay e old new (lent_words left) begin (counts t) new.workspace.want state
 stays_on_way gives counts law told e begin old new lent_bucket left state s t turned same space steps ie tells lends way =
     let tree : PassSpace → _ = λ g. traversal_step (given_of e.behavior e.input g (bucket_of lent_bucket)) turned.now turned.later old.workspace (words_of lent_bucket) in
@@ -249,7 +249,7 @@ pub stays_on_way_given : {S : Type 0} (gives : S → (q : Question) → Answer q
     e.behavior ≡ behavior → e.input ≡ input →
     TimedTwice gives told (λ now later. traversal_step (given_of behavior input old.space (bucket_of lent_bucket)) now later old.workspace (words_of lent_bucket)) s t (step_result new.workspace (words_of left) state) →
     place_of left ≡ place_of lent_bucket → new.space ≡ old.space → new.steps ≡ one_more old.steps →
-    IsCallContext e → TellsAs e.clock told → Lends e old.workspace.place.phase lent_bucket → OnWay e old (lent_words lent_bucket) begin (counts s) →
+    IsFitContext e → TellsAs e.clock told → Lends e old.workspace.place.phase lent_bucket → OnWay e old (lent_words lent_bucket) begin (counts s) →
     StaysOnWay e old new (lent_words left) begin (counts t) new.workspace.want state
 stays_on_way_given gives counts law told e begin old new lent_bucket left state s t behavior input f h turned same space steps ie tells lends way =
     stays_on_way gives counts law told e begin old new lent_bucket left state s t

@@ -28,7 +28,7 @@ use Rattle.sei_traverse.specs.declared.turned.Want.TheVariants.{Nothing}
 use Rattle.sei_traverse.specs.declared.workspace.Workspace.{Workspace}
 use Rattle.sei_traverse.specs.Acts.{at}
 use Rattle.sei_traverse.specs.Comes.{at_time, again, renoted, renoted_end, Agrees, Comes}
-use Rattle.sei_traverse.specs.CallContext.{CallContext, Follows, given_in, first_setting, first_start, IsCallContext, Whole}
+use Rattle.sei_traverse.specs.CallContext.{CallContext, Follows, given_in, first_setting, first_start, IsFitContext, Whole}
 use Rattle.sei_traverse.specs.PassActs.{pass_of, machine_in, with_machine, asked_behind, pass_from, pass_to}
 use Rattle.sei_traverse.specs.Given.{setting_in}
 use Rattle.sei_traverse.specs.Step.{act_in, site_in}
@@ -105,7 +105,7 @@ module _ (e : CallContext) (now : ℕ) (w : Workspace) (words : List ℕ) where
   first_asks_closing : w.sealed ≡ e.sealed → first_end.outcome ≡ Halted → weighed first_step + 1 ≤ weighed (act_in (given_in e) now First w.place.index w words)
   first_asks_closing is halts = let one : asked_behind first_end.outcome ≡ 1 = ap asked_behind halts in omega (arith, first_asks is, one)
 
-  module _ (call_context : IsCallContext e) (small : now < 2 ^ 64) (told : Follows e.clock now) (nothing : w.want ≡ Nothing) (steps asked : ℕ) (is : IsOf e w First) (second : SecondIsNew e w) (runs : FirstRuns e w words steps asked) where
+  module _ (call_context : IsFitContext e) (small : now < 2 ^ 64) (told : Follows e.clock now) (nothing : w.want ≡ Nothing) (steps asked : ℕ) (is : IsOf e w First) (second : SecondIsNew e w) (runs : FirstRuns e w words steps asked) where
     first_followed : Followed e.clock (first_setting e) (first_start e) (suc runs.made) (asked + weighed first_step) first_end
     first_followed =
         followed e.clock (first_setting e) (first_start e) (suc runs.made) (asked + weighed first_step) first_end runs.comes.time now runs.told told
@@ -212,7 +212,7 @@ module _ (e : CallContext) (now : ℕ) (w : Workspace) (words : List ℕ) where
     first_ends (Aborting cause bad) = absurd (first_stands.never_bad cause bad)
 
 -- a statement of the first pass leads to the next one, or to the start of Restore
-pub first_on : (e : CallContext) (now : ℕ) (w : Workspace) (words : List ℕ) (steps asked : ℕ) → IsCallContext e → now < 2 ^ 64 → Follows e.clock now → w.want ≡ Nothing →
+pub first_on : (e : CallContext) (now : ℕ) (w : Workspace) (words : List ℕ) (steps asked : ℕ) → IsFitContext e → now < 2 ^ 64 → Follows e.clock now → w.want ≡ Nothing →
     InFirst e w (Some words) steps asked → GoesOn e (given_in e) now First w words Some steps asked
 first_on e now w words steps asked call_context small told nothing h =
     first_ends e now w words call_context small told nothing steps asked h.is h.second h.at (ends_in (first_end e now w words).outcome)

@@ -17,7 +17,7 @@ use Rattle.sei_traverse.specs.declared.turned.Want.{Want}
 use Rattle.sei_traverse.specs.declared.turned.Want.TheVariants.{Nothing}
 use Rattle.sei_traverse.specs.declared.workspace.Workspace.{Workspace}
 use Rattle.sei_traverse.specs.Bounds.{StepsWithin, StepsAfter}
-use Rattle.sei_traverse.specs.CallContext.{CallContext, IsCallContext}
+use Rattle.sei_traverse.specs.CallContext.{CallContext, IsFitContext}
 use Rattle.sei_traverse.specs.FaultInvariant.{FaultInvariant, LendsWanted, Isolates}
 use Rattle.sei_traverse.specs.Noting.{NotesTime}
 use Rattle.sei_traverse.specs.Noting.NotesTime.{Same}
@@ -262,7 +262,7 @@ module _ {S : Type 0} (gives : S → (q : Question) → Answer q → S → Type 
 
       -- a traversal that is on its way stays on it
 
-      makes_on_way : IsCallContext e → (a b : On S) (s : Turned) → Makes gives counts told behavior input a b s → Lends e a.traversal.workspace.place.phase a.lent → OnWay e a.traversal (lent_words a.lent) begin (counts a.core) →
+      makes_on_way : IsFitContext e → (a b : On S) (s : Turned) → Makes gives counts told behavior input a b s → Lends e a.traversal.workspace.place.phase a.lent → OnWay e a.traversal (lent_words a.lent) begin (counts a.core) →
           StaysOnWay e a.traversal b.traversal (lent_words b.lent) begin (counts b.core) s.want s.state
       makes_on_way call_context a b s m lends way =
           subst (λ (w : Want). StaysOnWay e a.traversal b.traversal (lent_words b.lent) begin (counts b.core) w s.state) (sym m.want)
@@ -273,7 +273,7 @@ module _ {S : Type 0} (gives : S → (q : Question) → Answer q → S → Type 
         lends : (counts a.core).struck ≡ begin.struck → Lends e a.traversal.workspace.place.phase a.lent
         way : (counts a.core).struck ≡ begin.struck → OnWay e a.traversal (lent_words a.lent) begin (counts a.core)
 
-      quiet_on_way : IsCallContext e → (a b : On S) → IsQuiet a b → IsOnWay a → IsOnWay b
+      quiet_on_way : IsFitContext e → (a b : On S) → IsQuiet a b → IsOnWay a → IsOnWay b
       quiet_on_way call_context a b q h =
           let before : (counts b.core).struck ≡ begin.struck → (counts a.core).struck ≡ begin.struck = λ same. omega (arith, same, h.later, q.struck) in
           let stays = λ (same : (counts b.core).struck ≡ begin.struck). makes_on_way call_context a b quiet q (h.lends (before same)) (h.way (before same)) in
@@ -283,7 +283,7 @@ module _ {S : Type 0} (gives : S → (q : Question) → Answer q → S → Type 
             way = λ same. (stays same).goes;
           }
 
-      pub run_on_way : (n : ℕ) (x z : On S) (t : Turned) → IsCallContext e → (r : RunsOn gives counts told behavior input n x z t) → Lends e x.traversal.workspace.place.phase x.lent → OnWay e x.traversal (lent_words x.lent) begin (counts x.core) →
+      pub run_on_way : (n : ℕ) (x z : On S) (t : Turned) → IsFitContext e → (r : RunsOn gives counts told behavior input n x z t) → Lends e x.traversal.workspace.place.phase x.lent → OnWay e x.traversal (lent_words x.lent) begin (counts x.core) →
           StaysOnWay e r.last.traversal z.traversal (lent_words z.lent) begin (counts z.core) t.want t.state
       run_on_way n x z t call_context r lends way = by_strikes (same_or_more begin.struck (counts r.last.core).struck last.later)
         where

@@ -7,7 +7,7 @@ use Rattle.sei_stmt.specs.Honest.{after}
 use Rattle.sei_traverse.specs.declared.turned.Want.{Want}
 use Rattle.sei_traverse.specs.declared.workspace.Workspace.{Workspace}
 use Rattle.sei_traverse.specs.Comes.{at_time}
-use Rattle.sei_traverse.specs.CallContext.{CallContext, IsCallContext, Whole, first_setting, first_start}
+use Rattle.sei_traverse.specs.CallContext.{CallContext, IsFitContext, Whole, first_setting, first_start}
 use Rattle.sei_traverse.specs.Unstruck.{IsOf, FirstIsNew, SecondIsNew, FirstIsDone, SecondIsDone, before_enter, FirstAt, InBoth, HasOutput, CleanIn, IsFinished}
 use Rattle.sei_traverse.proofs.LogLaws.{room_kept}
 use Rattle.sei_traverse.proofs.TimeLaws.{ends_so}
@@ -193,7 +193,7 @@ at_most e time made end s whole h =
     sums : (s made k budget room : ℕ) → made < budget → k ≤ room → s ≤ before_enter made k + 4 → s ≤ 2 * budget + 3 * room + 11
     sums s made k budget room within logs h = omega (arith, within, logs, h)
 
-bounded_first : (e : CallContext) → IsCallContext e → (w : Workspace) (lent : Option (List ℕ)) (s asked : ℕ) → FirstAt e w lent s asked →
+bounded_first : (e : CallContext) → IsFitContext e → (w : Workspace) (lent : Option (List ℕ)) (s asked : ℕ) → FirstAt e w lent s asked →
     s ≤ 2 * e.space.budget + 3 * e.space.log + 11
 bounded_first e is w None s asked x = omega (arith, x.number)
 bounded_first e is w (Some words) s asked x =
@@ -202,7 +202,7 @@ bounded_first e is w (Some words) s asked x =
     omega (arith, within, x.number)
 
 -- a traversal that nothing struck stands nowhere behind so many steps
-pub bounded : (e : CallContext) → IsCallContext e → (w : Workspace) (lent : Option (List ℕ)) (s asked : ℕ) (p : Phase) → CleanIn e w lent s asked p →
+pub bounded : (e : CallContext) → IsFitContext e → (w : Workspace) (lent : Option (List ℕ)) (s asked : ℕ) (p : Phase) → CleanIn e w lent s asked p →
     s ≤ 2 * e.space.budget + 3 * e.space.log + 11
 bounded e is w lent s asked Guard c = omega (arith, c.number)
 bounded e is w lent s asked Take c = omega (arith, c.number, c.index)

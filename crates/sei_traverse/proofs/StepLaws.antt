@@ -26,7 +26,7 @@ use Rattle.sei_traverse.specs.declared.workspace.Ending.{Ending}
 use Rattle.sei_traverse.specs.declared.workspace.Ending.TheVariants.{Leads, Refuses, Aborts}
 use Rattle.sei_traverse.specs.declared.workspace.Workspace.{Workspace}
 use Rattle.sei_traverse.specs.Acts.{Acted, acted, ends, at, closes}
-use Rattle.sei_traverse.specs.CallContext.{CallContext, IsCallContext, Follows, given_in}
+use Rattle.sei_traverse.specs.CallContext.{CallContext, IsFitContext, Follows, given_in}
 use Rattle.sei_traverse.specs.FaultInvariant.{Knows, Wanted, IsUnfitInput}
 use Rattle.sei_traverse.proofs.ClosesNext.{ClosesNext}
 use Rattle.sei_traverse.proofs.ClosesNext.ClosesNext.{Stays, Closes}
@@ -34,7 +34,7 @@ use Rattle.sei_traverse.specs.OnWay.{lent_words, LendsBucket, Lends, LendsBucket
 use Rattle.sei_traverse.specs.Phases.{reply_of, send_want, closing_tree, closing_want}
 use Rattle.sei_traverse.specs.Given.{Given, given_of, has_sealed_call}
 use Rattle.sei_traverse.specs.Step.{act_in, site_in}
-use Rattle.sei_traverse.specs.Struck.{IsAimed, IsHonestResult, On, HasCopyOfSome, StruckIn}
+use Rattle.sei_traverse.specs.Struck.{IsAimed, IsHonestResult, OnLent, HasCopyOfSome, StruckIn}
 use Rattle.sei_traverse.specs.Trusted.{PassesGuard, IsTrusted}
 use Rattle.sei_traverse.specs.Unstruck.{take_want, want_in, NextIn, IsLent, WantedAt, InTake, InEnter, InGive, InSend, InBoth, HasOutput, CleanIn, IsFinished}
 use Rattle.sei_traverse.proofs.ActKeeps.{IsNoStore, Keeps, HonestlyKeeps, keeps, honestly_kept, OnlyCloses, closes_only, take_only}
@@ -225,7 +225,7 @@ CleanStands e steps number w lent Refused = (w.gate.done ≤ 1) × IsUnfitInput 
 CleanStands e steps number w lent (Aborted abort) = ⊥
 
 module _ (e : CallContext) (trusted : IsTrusted e) where
-  trusted_context : PassesGuard e → IsCallContext e
+  trusted_context : PassesGuard e → IsFitContext e
   trusted_context f = record {
     intact = f.intact;
     has = f.has;
@@ -350,10 +350,10 @@ module _ (e : CallContext) (trusted : IsTrusted e) (both : BothLaw e) (answered 
 
   -- the answers of clean passes, as the bucket's words are wanted
   wants_answers : LendsBucketOf w.wanted lent_bucket → OnlyCloses w (words_of lent_bucket) (acted a.workspace a.left (Leads a.to)) → IsHonestResult e w (words_of lent_bucket) asked →
-      On (left_of lent_bucket a.left) (λ (words : List ℕ). IsHonestResult e a.workspace words asked)
+      OnLent (left_of lent_bucket a.left) (λ (words : List ℕ). IsHonestResult e a.workspace words asked)
   wants_answers lends only answers =
       let here : IsHonestResult e a.workspace a.left asked = subst (λ (words : List ℕ). IsHonestResult e a.workspace words asked) (sym only.words_are) (answers_like e w a.workspace only.like (words_of lent_bucket) asked answers) in
-      subst (λ (lent : Option (List ℕ)). On lent (λ (words : List ℕ). IsHonestResult e a.workspace words asked)) (sym (is_lent w.wanted lent_bucket a.left lends)) here
+      subst (λ (lent : Option (List ℕ)). OnLent lent (λ (words : List ℕ). IsHonestResult e a.workspace words asked)) (sym (is_lent w.wanted lent_bucket a.left lends)) here
 
   answers_here : (time made : ℕ) (end : Machine) → IsAimed e w → LendsBucketOf w.wanted lent_bucket → InBoth e w (lent_words lent_bucket) time made end asked → IsHonestResult e w (words_of lent_bucket) asked
   answers_here time made end aimed lends i =

@@ -28,7 +28,7 @@ use Rattle.sei_traverse.proofs.AlikeLaws.{alike_itself, applied_alike, alike_sta
 use Rattle.sei_traverse.specs.Acts.{Acted, acted, at, closes}
 use Rattle.sei_traverse.specs.CallContext.{CallContext}
 use Rattle.sei_traverse.specs.Phases.{compared, compare_tree, entries_to, outputs_to, reply_of}
-use Rattle.sei_traverse.specs.Struck.{IsAimed, IsHonestResult, WasHonest, WasMisread, On, SecondStruck, ComesOn, setting_on, start_on, CompareStruck, WordsStruck}
+use Rattle.sei_traverse.specs.Struck.{IsAimed, IsHonestResult, WasHonest, WasMisread, OnLent, SecondStruck, ComesOn, setting_on, start_on, CompareStruck, WordsStruck}
 use Rattle.sei_traverse.specs.Struck.SecondStruck.{Good, Misread, Damaged, Struck}
 use Rattle.sei_traverse.specs.Struck.CompareStruck.{Fine, Doubt}
 use Rattle.sei_traverse.specs.Struck.WordsStruck.{Fine as FineWords, Doubt as DoubtWords}
@@ -238,7 +238,7 @@ module _ (e : CallContext) (w : Workspace) (words : List ℕ) (asked more : ℕ)
         (same_reply w.first.code w.first.bytes.items w.second.code w.second.bytes.items) refl
 
 compare_moved : (e : CallContext) (trusted : IsTrusted e) (w : Workspace) (lent : Option (List ℕ)) (steps asked index : ℕ) → InCompare e w lent steps asked → IsAimed e w →
-    On lent (λ words. CompareStruck e (record w { place = at Compare index }) words asked)
+    OnLent lent (λ words. CompareStruck e (record w { place = at Compare index }) words asked)
 compare_moved e trusted w None steps asked index i aimed = absurd (let never : None ≡ Some _ = i.both.words in let z : ⊥ = cc in z)
 compare_moved e trusted w (Some words) steps asked index i aimed =
     Fine (answers_like e w (record w { place = at Compare index }) words asked asked (moved_like w (at Compare index)) refl (omega arith)

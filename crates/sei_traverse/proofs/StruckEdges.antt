@@ -27,7 +27,7 @@ use Rattle.sei_traverse.proofs.ClosesNext.ClosesNext.{Stays, Closes, Lacks}
 use Rattle.sei_traverse.specs.Phases.{reply_of, guard_tree, guard_call, take_tree, take_wanted, store_wanted, send_want, closing_want, closing_place, closing_tree}
 use Rattle.sei_traverse.specs.Given.{Given}
 use Rattle.sei_traverse.specs.Step.{act_in}
-use Rattle.sei_traverse.specs.Struck.{IsAimed, IsHonestResult, StruckInTake, HasCopy, HasCopyOfSome, On, StruckIn}
+use Rattle.sei_traverse.specs.Struck.{IsAimed, IsHonestResult, StruckInTake, HasCopy, HasCopyOfSome, OnLent, StruckIn}
 use Rattle.sei_traverse.specs.Trusted.{IsTrusted}
 use Rattle.sei_traverse.specs.Unstruck.{InGuard, InTake, InBoth, HasOutput, CleanIn}
 use Rattle.sei_traverse.proofs.CleanAnswers.{answers_whole}
@@ -63,7 +63,7 @@ enter_at e w v words asked more wanted notes second wire le s = record {
 send_at : (e : CallContext) (w v : Workspace) (asked more : ℕ) → v.wanted ≡ w.wanted → v.notes ≡ w.notes → v.second ≡ w.second → v.wire ≡ w.wire → asked ≤ more → HasCopyOfSome e w asked → HasCopyOfSome e v more
 send_at e w v asked more wanted notes second wire le s = record { words = s.words; answered = enter_at e w v s.words asked more wanted notes second wire le s.answered }
 
-pub on_map : (P Q : List ℕ → Type 0) (lent : Option (List ℕ)) → ((words : List ℕ) → P words → Q words) → On lent P → On lent Q
+pub on_map : (P Q : List ℕ → Type 0) (lent : Option (List ℕ)) → ((words : List ℕ) → P words → Q words) → OnLent lent P → OnLent lent Q
 on_map P Q None f h = h
 on_map P Q (Some words) f h = f words h
 
@@ -204,14 +204,14 @@ take_laws e trusted = record {
 -- Where both passes were honest
 
 pub both_answers : (e : CallContext) → IsTrusted e → (w : Workspace) (lent : Option (List ℕ)) (time made : ℕ) (end : Machine) (asked : ℕ) → IsAimed e w → InBoth e w lent time made end asked →
-    On lent (λ words. IsHonestResult e w words asked)
+    OnLent lent (λ words. IsHonestResult e w words asked)
 both_answers e trusted w lent time made end asked aimed both =
-    subst (λ (o : Option (List ℕ)). On o (λ words. IsHonestResult e w words asked)) (sym both.words)
+    subst (λ (o : Option (List ℕ)). OnLent o (λ words. IsHonestResult e w words asked)) (sym both.words)
     (answers_whole e time made end both.whole trusted w end.words asked aimed both.first.notes refl
     (ap (λ (p : PassState). p.bytes.items) both.second.second) (omega (arith, both.questions)))
 
 both_enter : (e : CallContext) → IsTrusted e → (w : Workspace) (lent : Option (List ℕ)) (time made : ℕ) (end : Machine) (asked : ℕ) → IsAimed e w → InBoth e w lent time made end asked → w.wire.items ≡ end.bytes.items →
-    On lent (λ words. HasCopy e w words asked)
+    OnLent lent (λ words. HasCopy e w words asked)
 both_enter e trusted w lent time made end asked aimed both copy =
     on_map (λ words. IsHonestResult e w words asked) (λ words. HasCopy e w words asked) lent
     (λ words a. record { answers = a; wire = copy ∙ sym (ap (λ (p : PassState). p.bytes.items) both.second.second) })
@@ -315,7 +315,7 @@ done_always e w words asked more le nothing gate s =
     closing_always e Done w words more nothing gate tt (ToEnd refl refl (ap risen gate) (send_at e w v asked more refl refl refl refl le s))
 
 -- in Enter and Give the copy is that of the lent words
-moves_copy : (e : CallContext) (phase : Phase) (w : Workspace) (lent : Option (List ℕ)) (asked index : ℕ) → On lent (λ words. HasCopy e w words asked) → On lent (λ words. HasCopy e (record w { place = at phase index }) words asked)
+moves_copy : (e : CallContext) (phase : Phase) (w : Workspace) (lent : Option (List ℕ)) (asked index : ℕ) → OnLent lent (λ words. HasCopy e w words asked) → OnLent lent (λ words. HasCopy e (record w { place = at phase index }) words asked)
 moves_copy e phase w lent asked index =
     on_map (λ words. HasCopy e w words asked) (λ words. HasCopy e (record w { place = at phase index }) words asked) lent
     (λ words s. enter_at e w (record w { place = at phase index }) words asked asked refl refl refl refl (not_less asked) s)

@@ -35,7 +35,7 @@ use Rattle.sei_traverse.specs.CallContext.{CallContext, first_setting, first_sta
 use Rattle.sei_traverse.specs.FaultInvariant.{Wanted}
 use Rattle.sei_traverse.proofs.ClosesNext.ClosesNext.{Stays, Closes}
 use Rattle.sei_traverse.specs.Phases.{undone_to, restore_tree, closing_want}
-use Rattle.sei_traverse.specs.Struck.{IsNoted, IsAimed, WasHonest, WasMisread, pending, On, RestoreStruck, SecondStruck, ComesOn}
+use Rattle.sei_traverse.specs.Struck.{IsNoted, IsAimed, WasHonest, WasMisread, pending, OnLent, RestoreStruck, SecondStruck, ComesOn}
 use Rattle.sei_traverse.specs.Struck.RestoreStruck.{Restorable, Misread, Damaged}
 use Rattle.sei_traverse.specs.Struck.SecondStruck.{Good, Misread as MisreadOn, Damaged as DamagedOn}
 use Rattle.sei_traverse.specs.Trusted.{IsTrusted}
@@ -292,7 +292,7 @@ new_like : (e : CallContext) (w : Workspace) (to : Place) → SecondIsNew e w �
 new_like e w to n = record { second = n.second; second_log = n.second_log }
 
 restore_moved : (e : CallContext) (w : Workspace) (lent : Option (List ℕ)) (steps asked index : ℕ) → InRestore e w lent steps asked → IsAimed e w →
-    (SecondIsNew e (record w { place = at Restore index })) × On lent (λ words. RestoreStruck e (record w { place = at Restore index }) words asked)
+    (SecondIsNew e (record w { place = at Restore index })) × OnLent lent (λ words. RestoreStruck e (record w { place = at Restore index }) words asked)
 restore_moved e w None steps asked index i aimed = absurd (let never : None ≡ Some _ = i.words in let z : ⊥ = cc in z)
 restore_moved e w (Some words) steps asked index i aimed =
     (new_like e w (at Restore index) i.second, move_to e w words asked (restore_invariant e w words steps asked aimed i) index)

@@ -49,7 +49,7 @@ use Rattle.sei_traverse.specs.FaultInvariant.{Wanted}
 use Rattle.sei_traverse.proofs.ClosesNext.ClosesNext.{Stays, Closes}
 use Rattle.sei_traverse.specs.PassActs.{machine_in, with_machine, asked_behind, pass_from, pass_to}
 use Rattle.sei_traverse.specs.Given.{setting_in}
-use Rattle.sei_traverse.specs.Struck.{IsNoted, IsAimed, WasHonest, WasMisread, start_on, setting_on, ComesOn, SecondStruck, CompareStruck, On}
+use Rattle.sei_traverse.specs.Struck.{IsNoted, IsAimed, WasHonest, WasMisread, start_on, setting_on, ComesOn, SecondStruck, CompareStruck, OnLent}
 use Rattle.sei_traverse.specs.Struck.SecondStruck.{Good, Misread, Damaged, Struck}
 use Rattle.sei_traverse.specs.Struck.CompareStruck.{Fine, Doubt}
 use Rattle.sei_traverse.specs.Trusted.{IsTrusted, second_setting}
@@ -372,9 +372,9 @@ module _ (e : CallContext) (w : Workspace) (lent : Option (List ℕ)) (steps ask
   clean_good words are = Good (small_whole e h.time h.made h.end w.notes h.whole h.first.notes) h.n (clean_comes words are) (omega (arith, clean_asked words are))
 
   -- at any other statement it counts as struck in the second pass
-  second_moved : (index : ℕ) → On lent (λ words. SecondStruck e (record w { place = at Second index }) words (Next index) asked)
+  second_moved : (index : ℕ) → OnLent lent (λ words. SecondStruck e (record w { place = at Second index }) words (Next index) asked)
   second_moved index =
-      subst (λ (l : Option (List ℕ)). On l (λ words. SecondStruck e (record w { place = at Second index }) words (Next index) asked)) (sym h.lent_are)
+      subst (λ (l : Option (List ℕ)). OnLent l (λ words. SecondStruck e (record w { place = at Second index }) words (Next index) asked)) (sym h.lent_are)
       (Struck h.end (clean_was (record w { place = at Second index }) (record { fit = aimed.fit; wanted = aimed.wanted }) refl refl refl) clean_off)
 
 -- An honest act behind a strike.

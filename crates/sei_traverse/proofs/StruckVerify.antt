@@ -31,7 +31,7 @@ use Rattle.sei_traverse.specs.Comes.{at_time}
 use Rattle.sei_traverse.specs.CallContext.{CallContext, first_setting, first_start, Whole}
 use Rattle.sei_traverse.specs.Phases.{reply_of, word_to, copy_bytes, wire_to, verify_copy, verify_tree}
 use Rattle.sei_traverse.proofs.AlikeLaws.{applied_alike}
-use Rattle.sei_traverse.specs.Struck.{IsAimed, IsHonestResult, IsDoubted, WordsStruck, VerifyStruck, On}
+use Rattle.sei_traverse.specs.Struck.{IsAimed, IsHonestResult, IsDoubted, WordsStruck, VerifyStruck, OnLent}
 use Rattle.sei_traverse.specs.Struck.WordsStruck.{Fine, Doubt}
 use Rattle.sei_traverse.specs.Trusted.{IsTrusted}
 use Rattle.sei_traverse.specs.Unstruck.{InBoth, InVerify}
@@ -225,7 +225,7 @@ clean_outputs : (e : CallContext) (w : Workspace) (lent : Option (List ℕ)) (ti
 clean_outputs e w lent time made end asked both = ap (λ (p : PassState). p.bytes.items) (both.first.first ∙ sym both.second.second)
 
 verify_moved : (e : CallContext) → IsTrusted e → (w : Workspace) (lent : Option (List ℕ)) (steps asked index : ℕ) → InVerify e w lent steps asked → IsAimed e w →
-    On lent (λ words. VerifyStruck e (record w { place = at Verify index }) words asked)
+    OnLent lent (λ words. VerifyStruck e (record w { place = at Verify index }) words asked)
 verify_moved e trusted w lent steps asked index i aimed =
     on_map (λ words. IsHonestResult e w words asked) (λ words. VerifyStruck e (record w { place = at Verify index }) words asked) lent
     (λ words a. record {

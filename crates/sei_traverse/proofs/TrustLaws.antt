@@ -19,7 +19,7 @@ use Rattle.sei_stmt.proofs.Public.{halts_or_aborts, one_end, IsGoing}
 use Rattle.sei_pass.specs.Setting.{call_at}
 use Rattle.sei_traverse.specs.Comes.{renoted, renoted_end}
 use Rattle.sei_traverse.specs.declared.workspace.Workspace.{Workspace}
-use Rattle.sei_traverse.specs.CallContext.{CallContext, IsCallContext, first_setting, first_start, given_in}
+use Rattle.sei_traverse.specs.CallContext.{CallContext, IsFitContext, first_setting, first_start, given_in}
 use Rattle.sei_traverse.specs.Given.{has_call, has_sealed_call, call_of}
 use Rattle.sei_traverse.specs.Sound.{IsServedBy, IsModelAnswer}
 use Rattle.sei_traverse.specs.Struck.{IsHonestResult}
@@ -151,5 +151,5 @@ module _ {B : Type 0} (space : List ℕ → ℕ → Space) (Before Stands : List
       by_end (Unfit second m n bad) = absurd (halts_or_aborts (second_setting e) start m a.end NoNotes n a.made bad a.run.halts)
 
 -- what is trusted and fit is a call context
-pub fit_is_context : (e : CallContext) → IsTrusted e → PassesGuard e → IsCallContext e
+pub fit_is_context : (e : CallContext) → IsTrusted e → PassesGuard e → IsFitContext e
 fit_is_context e t fit = record { intact = fit.intact; has = fit.has; called = fit.called; bucket = t.bucket fit; clock = t.clock; ends = t.ends fit }

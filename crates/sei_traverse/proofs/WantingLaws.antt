@@ -19,7 +19,7 @@ use Rattle.sei_traverse.specs.FaultInvariant.ClosesOnce.{Stays, Closes, Lacks}
 use Rattle.sei_traverse.specs.OnWay.{lent_words}
 use Rattle.sei_traverse.specs.Phases.{reply_of, send_want, closing_want}
 use Rattle.sei_traverse.specs.State.{TraversalState}
-use Rattle.sei_traverse.specs.Struck.{IsHonestResult, On}
+use Rattle.sei_traverse.specs.Struck.{IsHonestResult, OnLent}
 use Rattle.sei_traverse.specs.Wanting.{Steps, is_wanted, wanted_in, all_wants, WantsOnce}
 use Rattle.sei_traverse.specs.Wanting.StepsFrom.{Here, GoesOn}
 
@@ -111,7 +111,7 @@ module _ (e : CallContext) (w : Workspace) (right : Type 0) (wanted : List Want)
 -- A step.
 
 -- where the words are those of an honest run, the wanted bucket is the call's
-aimed_on : (e : CallContext) (w : Workspace) (lent : Option (List ℕ)) (asked : ℕ) → On lent (λ words. IsHonestResult e w words asked) → w.wanted ≡ e.call.bucket
+aimed_on : (e : CallContext) (w : Workspace) (lent : Option (List ℕ)) (asked : ℕ) → OnLent lent (λ words. IsHonestResult e w words asked) → w.wanted ≡ e.call.bucket
 aimed_on e w None asked h = absurd h
 aimed_on e w (Some words) asked h = h.aimed.wanted
 

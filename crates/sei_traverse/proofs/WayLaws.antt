@@ -8,7 +8,7 @@ use Rattle.sei_log.specs.declared.notes.Notes.{Notes}
 use Rattle.sei_stmt.specs.Machine.{Machine, After}
 use Rattle.sei_traverse.specs.declared.workspace.Workspace.{Workspace}
 use Rattle.sei_traverse.specs.Comes.{Agrees}
-use Rattle.sei_traverse.specs.CallContext.{CallContext, IsCallContext, Whole, first_setting, first_start}
+use Rattle.sei_traverse.specs.CallContext.{CallContext, IsFitContext, Whole, first_setting, first_start}
 use Rattle.sei_traverse.specs.OnWay.{IsClean, OnWay, AtEnd}
 use Rattle.sei_traverse.specs.Served.{HasReply, IsServed}
 use Rattle.sei_traverse.specs.State.{TraversalState, begun_traversal}
@@ -56,7 +56,7 @@ relent e t old new begin now p is f way = record {
       };
 }
 
-pub way_lends : (e : CallContext) (t : TraversalState) (begin now : Counts) → IsCallContext e → t.workspace.place.phase ≡ First → OnWay e t None begin now → OnWay e t (Some e.taken) begin now
+pub way_lends : (e : CallContext) (t : TraversalState) (begin now : Counts) → IsFitContext e → t.workspace.place.phase ≡ First → OnWay e t None begin now → OnWay e t (Some e.taken) begin now
 way_lends e t begin now ie is way =
     relent e t None (Some e.taken) begin now First is (λ steps asked i. record { is = i.is; second = i.second; at = lends e t.workspace steps asked ie.clock i.at }) way
 
@@ -64,7 +64,7 @@ pub way_gives : (e : CallContext) (t : TraversalState) (words : List ℕ) (begin
 way_gives e t words begin now is way = relent e t (Some words) None begin now Send is
     (λ steps asked i. record { is = i.is; time = i.time; made = i.made; end = i.end; answered = i.answered; index = i.index; words = search; number = i.number }) way
 
-pub way_ends : (e : CallContext) (t : TraversalState) (lent : Option (List ℕ)) (begin now : Counts) → IsCallContext e → OnWay e t lent begin now → now.struck ≡ begin.struck →
+pub way_ends : (e : CallContext) (t : TraversalState) (lent : Option (List ℕ)) (begin now : Counts) → IsFitContext e → OnWay e t lent begin now → now.struck ≡ begin.struck →
     t.steps ≤ 2 * e.space.budget + 3 * e.space.log + 11
 way_ends e t lent begin now ie way u = let c = way.clean u in bounded e ie t.workspace lent t.steps c.asked t.workspace.place.phase c.clean.in_phase
 

@@ -56,7 +56,7 @@ Follows (Some told) time = time ≡ told
 
 -- the input is the sealed one, and has the call; the bucket is there; the clock tells numbers of 64 bits, where it tells
 -- them; and whatever it answers, an honest first pass on the words that were taken ends well
-pub record IsCallContext (e : CallContext) : Type 0 where
+pub record IsFitContext (e : CallContext) : Type 0 where
   pub intact : is_intact e.sealed e.input ≡ true
   pub has : has_sealed_call (given_in e) e.sealed ≡ true
   pub called : call_of (given_in e) e.sealed ≡ Some e.call

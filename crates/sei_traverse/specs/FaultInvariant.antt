@@ -15,7 +15,7 @@ use Rattle.sei_traverse.specs.OnWay.{lent_words, LendsIn, LendsBucket, IsClean, 
 use Rattle.sei_traverse.specs.Phases.{reply_of, closing_want}
 use Rattle.sei_traverse.specs.Given.{FailsGuard}
 use Rattle.sei_traverse.specs.State.{TraversalState}
-use Rattle.sei_traverse.specs.Struck.{IsAimed, IsHonestResult, On, HasCopyOfSome, StruckIn}
+use Rattle.sei_traverse.specs.Struck.{IsAimed, IsHonestResult, OnLent, HasCopyOfSome, StruckIn}
 use Rattle.sei_traverse.specs.Trusted.{PassesGuard}
 
 -- behind Guard the input is known to be fit, and behind Take the wanted bucket to be the call's
@@ -75,8 +75,8 @@ WantsBucket e lent_bucket want = ⊤
 abbrev pub Wanted : CallContext → Workspace → Option (List ℕ) → ℕ → Want → Type 0
 Wanted e w lent asked Nothing = ⊤
 Wanted e w lent asked (WantTake bucket) = (bucket ≡ w.wanted) × (bucket < e.space.geometry.buckets)
-Wanted e w lent asked WantEnter = On lent (λ words. IsHonestResult e w words asked)
-Wanted e w lent asked WantGive = On lent (λ words. IsHonestResult e w words asked)
+Wanted e w lent asked WantEnter = OnLent lent (λ words. IsHonestResult e w words asked)
+Wanted e w lent asked WantGive = OnLent lent (λ words. IsHonestResult e w words asked)
 Wanted e w lent asked WantSend = HasCopyOfSome e w asked × (reply_of w ≢ [])
 
 -- from the old workspace to the new one no phase was closed, and nothing is wanted; or the phase of the old place was closed,

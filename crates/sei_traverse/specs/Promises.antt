@@ -10,7 +10,7 @@ use Rattle.sei_traverse.specs.declared.turned.Turned.{Turned}
 use Rattle.sei_traverse.specs.declared.turned.Want.{Want}
 use Rattle.sei_traverse.specs.declared.turned.Want.TheVariants.{Nothing}
 use Rattle.sei_traverse.specs.Bounds.{StepsWithin, StepsAfter}
-use Rattle.sei_traverse.specs.CallContext.{CallContext, IsCallContext}
+use Rattle.sei_traverse.specs.CallContext.{CallContext, IsFitContext}
 use Rattle.sei_traverse.specs.FaultInvariant.{FaultInvariant, LendsWanted, Isolates}
 use Rattle.sei_traverse.specs.Given.{given_of}
 use Rattle.sei_traverse.specs.Noting.{NotesTime}
@@ -35,7 +35,7 @@ KeepsTime told x y = NotesTime told x.traversal.workspace.notes.now y.traversal.
 -- if x is on its way, the step from `last` stays on it
 abbrev pub LastOnWay : {S : Type 0} → (S → Counts) → Option ℕ → Behavior → List ℕ → On S → On S → On S → Turned → Type 0
 LastOnWay counts told behavior input x last z t =
-    (e : CallContext) (begin : Counts) → IsCallContext e → TellsAs e.clock told → e.behavior ≡ behavior → e.input ≡ input →
+    (e : CallContext) (begin : Counts) → IsFitContext e → TellsAs e.clock told → e.behavior ≡ behavior → e.input ≡ input →
     Lends e x.traversal.workspace.place.phase x.lent → OnWay e x.traversal (lent_words x.lent) begin (counts x.core) →
     StaysOnWay e last.traversal z.traversal (lent_words z.lent) begin (counts z.core) t.want t.state
 

@@ -197,20 +197,20 @@ pub record HasCopyOfSome (e : CallContext) (w : Workspace) (asked : ℕ) : Type 
   pub answered : HasCopy e w words asked
 
 -- words are lent, and this is so of them
-abbrev pub On : Option (List ℕ) → (List ℕ → Type 0) → Type 0
-On None holds = ⊥
-On (Some words) holds = holds words
+abbrev pub OnLent : Option (List ℕ) → (List ℕ → Type 0) → Type 0
+OnLent None holds = ⊥
+OnLent (Some words) holds = holds words
 
 -- the cases, by phase. In Guard none stands: a strike there leads out of it, or to another number of closed phases
 abbrev pub StruckIn : CallContext → Workspace → Option (List ℕ) → ℕ → Phase → Type 0
 StruckIn e w lent asked Guard = ⊥
 StruckIn e w lent asked Take = StruckInTake e w
 StruckIn e w lent asked First = StruckInFirst e w lent asked
-StruckIn e w lent asked Restore = (SecondIsNew e w) × On lent (λ words. RestoreStruck e w words asked)
-StruckIn e w lent asked Second = On lent (λ words. SecondStruck e w words (Next w.place.index) asked)
-StruckIn e w lent asked Compare = On lent (λ words. CompareStruck e w words asked)
-StruckIn e w lent asked Verify = On lent (λ words. VerifyStruck e w words asked)
-StruckIn e w lent asked Enter = On lent (λ words. HasCopy e w words asked)
-StruckIn e w lent asked Give = On lent (λ words. HasCopy e w words asked)
+StruckIn e w lent asked Restore = (SecondIsNew e w) × OnLent lent (λ words. RestoreStruck e w words asked)
+StruckIn e w lent asked Second = OnLent lent (λ words. SecondStruck e w words (Next w.place.index) asked)
+StruckIn e w lent asked Compare = OnLent lent (λ words. CompareStruck e w words asked)
+StruckIn e w lent asked Verify = OnLent lent (λ words. VerifyStruck e w words asked)
+StruckIn e w lent asked Enter = OnLent lent (λ words. HasCopy e w words asked)
+StruckIn e w lent asked Give = OnLent lent (λ words. HasCopy e w words asked)
 StruckIn e w lent asked Send = HasCopyOfSome e w asked
 StruckIn e w lent asked Done = HasCopyOfSome e w asked

@@ -8,7 +8,7 @@ ghost use Rattle.sei_stmt.specs.Handling.{Behavior};
 ghost use Rattle.sei_words.specs.LentBucket.{place_of};
 ghost use Rattle.sei_words.specs.Words.{BucketWords};
 ghost use Rattle.sei_traverse.specs.Bounds.{honest_steps, most_steps, StepsWithin};
-ghost use Rattle.sei_traverse.specs.CallContext.{CallContext, IsCallContext};
+ghost use Rattle.sei_traverse.specs.CallContext.{CallContext, IsFitContext};
 ghost use Rattle.sei_traverse.specs.FaultInvariant.{FaultInvariant};
 ghost use Rattle.sei_traverse.specs.OnWay.{lent_words, OnWay, AtEnd};
 ghost use Rattle.sei_traverse.specs.Phases.{reply_of};
@@ -31,7 +31,7 @@ use sei_stmt::Modeled;
 /// are lent when they are wanted, and where they are lent no more once the bucket is given back.
 pub fn traversals_are_on_their_way()
     ensures begins { (e : CallContext) (c : Counts) → OnWay e (begun_traversal e.space e.sealed) None c c }
-    ensures lends { (e : CallContext) (t : TraversalState) (begin now : Counts) → IsCallContext e → t.workspace.place.phase ≡ Phase.First →
+    ensures lends { (e : CallContext) (t : TraversalState) (begin now : Counts) → IsFitContext e → t.workspace.place.phase ≡ Phase.First →
         OnWay e t None begin now → OnWay e t (Some e.taken) begin now }
     ensures gives { (e : CallContext) (t : TraversalState) (words : List ℕ) (begin now : Counts) → t.workspace.place.phase ≡ Phase.Send →
         OnWay e t (Some words) begin now → OnWay e t None begin now }
@@ -40,7 +40,7 @@ pub fn traversals_are_on_their_way()
 /// Without a strike a traversal comes to its end: it makes no more steps than this, which is less than
 /// a count of 64 bits holds for a valid geometry.
 pub fn traversals_end()
-    ensures running { (e : CallContext) (t : TraversalState) (lent : Option (List ℕ)) (begin now : Counts) → IsCallContext e → OnWay e t lent begin now → now.struck ≡ begin.struck →
+    ensures running { (e : CallContext) (t : TraversalState) (lent : Option (List ℕ)) (begin now : Counts) → IsFitContext e → OnWay e t lent begin now → now.struck ≡ begin.struck →
         t.steps ≤ honest_steps e.space }
     ensures ended { (e : CallContext) (t : TraversalState) (begin now : Counts) → AtEnd e t begin now → now.struck ≡ begin.struck →
         t.steps ≤ honest_steps e.space }
@@ -158,11 +158,12 @@ pub fn both_passes_are_made()
 {}
 
 /// A sound handler is trusted on words that stand for a state of its model, so a strike is isolated
-/// there; where the input is the sealed one and has the call, that is a call context as well. What is to be entered is the answer:
-/// the words stand for the state that it leaves at the noted time, and the reply is the answer's.
+/// there; if the input is the sealed one and has the call, its context is fit as well. What is to be
+/// entered is the answer: the words stand for the state that it leaves at the noted time, and the reply
+/// is the answer's.
 pub fn sound_handlers_are_trusted<H: Modeled>()
     ensures trusted { (h : H) (e : CallContext) → IsServedBy (H.space h) (H.begins h) (H.stands h) (H.answer h) e → IsTrusted e }
-    ensures call_context { (h : H) (e : CallContext) → IsServedBy (H.space h) (H.begins h) (H.stands h) (H.answer h) e → PassesGuard e → IsCallContext e }
+    ensures fit { (h : H) (e : CallContext) → IsServedBy (H.space h) (H.begins h) (H.stands h) (H.answer h) e → PassesGuard e → IsFitContext e }
     ensures answered { (h : H) (e : CallContext) (s : IsServedBy (H.space h) (H.begins h) (H.stands h) (H.answer h) e) →
         GivesModelAnswer (H.stands h) (H.answer h) s.held e }
 {}
