@@ -4,6 +4,7 @@ use Rattle.mc_model.specs.declared.call.Verb.{Verb}
 use Rattle.mc_model.specs.declared.call.Verb.TheVariants as verbs
 use Rattle.mc_model.specs.declared.call.CallSpan.{CallSpan}
 use Rattle.mc_model.specs.declared.call.Span.{Span}
+use Rattle.mc_model.specs.Call.{Call}
 use Rattle.mc_model.specs.Views.{call_with}
 use Rattle.mc_text.specs.declared.parsed.Kind.{Kind}
 use Rattle.mc_text.specs.declared.parsed.Kind.TheVariants as kinds
@@ -21,14 +22,14 @@ no_span = record { from = 0; to = 0 }
 abbrev pub blank_span : Verb → CallSpan
 blank_span verb = record { verb = verb; key = no_span; hash = 0; bucket = 0; flags = 0; negative = false; exptime = 0; unique = 0; value = 0; block = no_span; last = true; noreply = false; text = 0 }
 
-abbrev pub by_kind : Kind → Meaning → Meaning → Meaning
-by_kind kinds.Quit one each = Quit
-by_kind kinds.One one each = one
-by_kind kinds.Each one each = each
+abbrev pub by_kind : Kind → Call → List (List ℕ) → Meaning
+by_kind kinds.Quit c keys = Quit
+by_kind (kinds.One closing) c keys = One c closing
+by_kind kinds.Each c keys = Each c keys
 
 -- a request with this block, its keys among these words
 abbrev pub meaning_of : List ℕ → List (List ℕ) → Template → Meaning
-meaning_of block ws t = by_kind t.kind (One (call_with [] block t.call) t.closing) (Each (call_with [] block t.call) (some_words ws t.first t.count))
+meaning_of block ws t = by_kind t.kind (call_with [] block t.call) (some_words ws t.first t.count)
 
 abbrev pub line_meaning_of : List (List ℕ) → ParsedLine → LineMeaning
 line_meaning_of ws (lines.Ends t) = Ends (meaning_of [] ws t)
@@ -36,7 +37,7 @@ line_meaning_of ws (lines.Wants t n) = Wants (call_with [] [] t.call) (some_word
 
 abbrev pub HasVerbOf : Kind → Verb → Type 0
 HasVerbOf kinds.Quit verb = ⊤
-HasVerbOf kinds.One verb = verb ≡ verbs.Fixed
+HasVerbOf (kinds.One closing) verb = verb ≡ verbs.Fixed
 HasVerbOf kinds.Each verb = HasKey verb
 
 -- its keys are among these words, its command is one of its kind, and its text is one of the table

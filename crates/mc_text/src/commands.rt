@@ -1,3 +1,5 @@
+//! The command words, and the form of each one's lines.
+
 ghost use Rattle.std.specs.Prelude.{◌≡◌, IfSome};
 ghost use Rattle.std.specs.Str.{bytes_eq};
 ghost use Rattle.mc_text.specs.Commands.{command_of};

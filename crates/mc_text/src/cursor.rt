@@ -1,3 +1,5 @@
+//! The calls of a request, one after another: its line is gone over once.
+
 ghost use Rattle.std.specs.Prelude.{◌≡◌, ◌+◌, ◌<◌, slice_get, Some, IfSome, IfNone};
 ghost use Rattle.std.specs.Option.{option_map};
 ghost use Rattle.mc_model.specs.Call.{IsPlaced};
@@ -52,7 +54,7 @@ impl Cursor {
     {
         match request.template.kind {
             Kind::Quit => None,
-            Kind::One => {
+            Kind::One { .. } => {
                 let call = request.only_call(self.nth)?;
                 self.nth += 1;
                 Some(call)

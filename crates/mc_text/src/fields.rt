@@ -1,3 +1,5 @@
+//! The fields of a line: a key, an exptime, `noreply`.
+
 ghost use Rattle.std.specs.Prelude.{◌≡◌, ◌<◌, ◌≤◌, length, drop};
 ghost use Rattle.std.specs.List.{list_all};
 ghost use Rattle.mc_text.specs.Words.{words, arg};

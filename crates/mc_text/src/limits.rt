@@ -1,3 +1,5 @@
+//! How long a line, a key and a block may be, and the limits of a server.
+
 /// The bytes of a line with its LF.
 pub const LONGEST_LINE: usize = 65_536;
 

@@ -34,11 +34,10 @@ fn fixed(line: &[u8], text: u8, noreply: bool, closing: bool) -> ParsedLine
         ..blank(Verb::Fixed)
     };
     ParsedLine::Ends(Template {
-        kind: Kind::One,
+        kind: Kind::One { closing },
         call,
         first: 0,
         count: 0,
-        closing,
     })
 }
 
@@ -67,7 +66,6 @@ fn block_for(line: &[u8], call: CallSpan, bytes: u64) -> ParsedLine
         call,
         first: 1,
         count: 1,
-        closing: false,
     };
     ParsedLine::Wants(template, bytes as usize)
 }
@@ -125,7 +123,6 @@ fn retrieval(line: &[u8], scan: Scan, verb: Verb) -> ParsedLine
             call: blank(verb),
             first: 1,
             count,
-            closing: false,
         }),
     }
 }
@@ -181,7 +178,6 @@ fn deletion(line: &[u8], verb: Verb) -> ParsedLine
         call,
         first: 1,
         count: 1,
-        closing: false,
     })
 }
 
@@ -224,7 +220,6 @@ fn quit(line: &[u8]) -> ParsedLine
         call: blank(Verb::Fixed),
         first: 0,
         count: 0,
-        closing: false,
     })
 }
 

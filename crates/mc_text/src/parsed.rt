@@ -1,3 +1,5 @@
+//! A line that was read: which of its words are keys, and what its calls have in common.
+
 ghost use Rattle.std.specs.Prelude.{◌≡◌};
 ghost use Rattle.mc_text.specs.Parsed.{no_span, blank_span};
 
@@ -8,8 +10,8 @@ use mc_model::{CallSpan, Span, Verb};
 pub enum Kind {
     /// None: it ends the connection.
     Quit,
-    /// One call without a key.
-    One,
+    /// One call without a key. `closing`: the connection is closed after it.
+    One { closing: bool },
     /// One call for each key.
     Each,
 }
@@ -24,8 +26,6 @@ pub struct Template {
     pub first: usize,
     /// How many keys there are.
     pub count: usize,
-    /// Whether the connection is closed behind its call.
-    pub closing: bool,
 }
 
 /// What a line asks for.

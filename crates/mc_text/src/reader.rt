@@ -1,3 +1,5 @@
+//! The request at the front of some bytes.
+
 ghost use Rattle.std.specs.Prelude.{◌≡◌, ℕ, ◌<◌, ◌≤◌, List, length, take, IfSome, IfNone};
 ghost use Rattle.std.specs.Option.{option_map};
 ghost use Rattle.mc_text.specs.Bounds.{longest_line};
@@ -55,11 +57,10 @@ fn fixed(limits: &Limits, length: usize, text: u8, noreply: bool, closing: bool)
         ..blank(Verb::Fixed)
     };
     let template = Template {
-        kind: Kind::One,
+        kind: Kind::One { closing },
         call,
         first: 0,
         count: 0,
-        closing,
     };
     Request {
         length,

@@ -1,3 +1,5 @@
+//! A request, and its calls.
+
 ghost use Rattle.std.specs.Prelude.{◌≡◌, ℕ, ◌+◌, ◌<◌, ◌≤◌, List, [], ◌∷◌, length, take, slice_range, slice_get, Some, IfSome};
 ghost use Rattle.std.specs.Option.{option_map};
 ghost use Rattle.mc_model.specs.declared.call.Verb.TheVariants.{Fixed};
@@ -42,7 +44,7 @@ impl Request {
     {
         match self.template.kind {
             Kind::Quit => 0,
-            Kind::One => 1,
+            Kind::One { .. } => 1,
             Kind::Each => self.template.count as u64,
         }
     }
@@ -52,7 +54,7 @@ impl Request {
         ensures { (bytes : List ℕ) → IsOf bytes self.now → result ≡ is_closing (meaning_at bytes self.now) }
     {
         match self.template.kind {
-            Kind::One => self.template.closing,
+            Kind::One { closing } => closing,
             Kind::Quit => false,
             Kind::Each => false,
         }
@@ -64,7 +66,7 @@ impl Request {
     {
         match self.template.kind {
             Kind::Quit => true,
-            Kind::One => self.template.closing,
+            Kind::One { closing } => closing,
             Kind::Each => false,
         }
     }
@@ -81,7 +83,7 @@ impl Request {
     {
         match self.template.kind {
             Kind::Quit => None,
-            Kind::One => self.only_call(nth),
+            Kind::One { .. } => self.only_call(nth),
             Kind::Each => self.key_call(bytes, nth),
         }
     }

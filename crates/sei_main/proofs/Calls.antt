@@ -9,7 +9,7 @@ use Rattle.mc_text.specs.declared.parsed.Kind.TheVariants as kinds
 use Rattle.mc_text.specs.declared.request.Request.{Request}
 use Rattle.mc_text.specs.Words.{words}
 use Rattle.mc_text.specs.Lines.{some_words}
-use Rattle.mc_text.specs.Meaning.{Meaning, One, Each, key_calls, calls_of}
+use Rattle.mc_text.specs.Meaning.{Meaning, key_calls, calls_of}
 use Rattle.mc_text.specs.Fits.{IsFit}
 use Rattle.mc_text.specs.Parsed.{by_kind}
 use Rattle.mc_text.specs.Reading.{buckets_of, calls_at}
@@ -38,7 +38,7 @@ length-key_calls buckets c (k ∷ ks) = ap suc (length-key_calls buckets c ks)
 -- no more calls than bytes
 pub few_calls : (text : List ℕ) (r : Request) → 0 < length text → length (calls_at text r) ≤ length text
 unfolding calls_of
-few_calls text r some = by r.template.kind _ _ _
+few_calls text r some = by r.template.kind _
   where
     ws : List (List ℕ)
     ws = words (take r.line text)
@@ -46,7 +46,7 @@ few_calls text r some = by r.template.kind _ _ _
     few : length (some_words ws r.template.first r.template.count) ≤ length text
     few = omega (arith, length-take r.template.count (drop r.template.first ws), length-drop r.template.first ws, words_few (take r.line text), length-take r.line text)
 
-    by : (k : Kind) → (one : Call) → (closing : Bool) → (each : Call) → length (calls_of (buckets_of r) (by_kind k (One one closing) (Each each (some_words ws r.template.first r.template.count)))) ≤ length text
-    by kinds.Quit one closing each = omega arith
-    by kinds.One one closing each = omega (arith, some)
-    by kinds.Each one closing each = omega (arith, few, length-key_calls (buckets_of r) each (some_words ws r.template.first r.template.count))
+    by : (k : Kind) → (c : Call) → length (calls_of (buckets_of r) (by_kind k c (some_words ws r.template.first r.template.count))) ≤ length text
+    by kinds.Quit c = omega arith
+    by (kinds.One closing) c = omega (arith, some)
+    by kinds.Each c = omega (arith, few, length-key_calls (buckets_of r) c (some_words ws r.template.first r.template.count))
