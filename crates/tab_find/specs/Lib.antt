@@ -9,3 +9,4 @@ pub mod Parts
 pub mod Answers
 pub mod Found
 pub mod Copies
+pub mod Begins
