@@ -9,3 +9,4 @@ pub mod Given
 pub mod Arms
 pub mod Turns
 pub mod Loop
+pub mod WholePass

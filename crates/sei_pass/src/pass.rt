@@ -87,7 +87,7 @@ impl Pass {
         self.frame.clear();
     }
 
-    /// The code of the output bytes, or `None` where they were not made.
+    /// The code of the output bytes, or `None` if they were not made.
     pub fn code(&self) -> Option<u64>
         ensures value { result ≡ self.now.code }
         ensures pass { IsPass self.now }
@@ -102,7 +102,7 @@ impl Pass {
         self.frame.bytes.bytes()
     }
 
-    /// What the statement at `index` of the table does, or `None` where there is no such statement.
+    /// What the statement at `index` of the table does, or `None` if there is no such statement.
     #[inline(always)]
     pub fn act<H: Handler>(&self, hands: &H, index: u64) -> Option<Act>
         ensures act { result ≡ option_map (act_of self.now.registers) (slice_get (H.behavior hands.now).statements index) }
@@ -115,7 +115,7 @@ impl Pass {
     }
 
     /// Makes the statement at `index` of the table, counted from 0, with each of its effects asked
-    /// of `core`. `lent` are the words of the bucket that is lent, where one is.
+    /// of `core`. `lent` are the words of the bucket that is lent, if one is.
     ///
     /// It aborts with `Table` where there is no such statement, with `Budget` where the pass has
     /// made as many statements as it may, and else as the statement does.

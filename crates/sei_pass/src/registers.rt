@@ -95,7 +95,7 @@ impl Frame {
         }
     }
 
-    /// Goes on at `to` where both registers hold the same.
+    /// Goes on at `to` if both registers hold the same.
     #[inline(always)]
     pub fn jump_equal<K: Core>(
         &mut self,
@@ -119,7 +119,7 @@ impl Frame {
         }
     }
 
-    /// Goes on at `to` where the left register holds less.
+    /// Goes on at `to` if the left register holds less.
     #[inline(always)]
     pub fn jump_less<K: Core>(
         &mut self,

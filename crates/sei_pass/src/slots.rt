@@ -9,13 +9,13 @@ use sei_words::{Lent, NoBucket, Words};
 
 /// What is lent, with its slots.
 pub trait Slots: Lent {
-    /// Whether the slot is free at this moment. Where no bucket is lent, none is.
+    /// Whether the slot is free at this moment. If no bucket is lent, none is.
     fn is_free(&self, g: &Geometry, slot: u64, moment: u64) -> bool
         requires geometry { IsOf g.now (Self.lent_bucket self.now) }
         requires slot { slot < g.now.slots }
         ensures { result ≡ free_of g.now (bucket_of (Self.lent_bucket self.now)) (words_of (Self.lent_bucket self.now)) moment slot };
 
-    /// The lowest slot that is free at this moment, or the number of slots where none is.
+    /// The lowest slot that is free at this moment, or the number of slots if none is.
     fn lowest_free(&self, g: &Geometry, moment: u64) -> u64
         requires { IsOf g.now (Self.lent_bucket self.now) }
         ensures { result ≡ first_free (free_of g.now (bucket_of (Self.lent_bucket self.now)) (words_of (Self.lent_bucket self.now)) moment) 0 g.now.slots };

@@ -69,7 +69,7 @@ fn budget(g: &Geometry, words: u64) -> u64
 }
 
 impl PassSpace {
-    /// With the room and the statements that a call needs whose values and blocks have at most so many
+    /// With the room and the statements that a call needs whose values and blocks have at most n
     /// words.
     pub fn new(g: &Geometry, words: u64) -> PassSpace
         requires geometry { IsValid g.now }

@@ -32,7 +32,7 @@ pub fn time<C: Clock>(which: Which, statement: Stmt, clock: &C) -> u64
 }
 
 impl Frame {
-    /// Makes the statement at the given index, where there is one and the budget is not spent.
+    /// Makes the statement at the given index, if there is one and the budget is not spent.
     #[inline(always)]
     pub fn step<H: Handler, L: Slots, K: Core, C: Clock>(
         &mut self,

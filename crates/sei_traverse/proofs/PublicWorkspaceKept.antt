@@ -42,6 +42,7 @@ use Rattle.sei_traverse.specs.PassActs.{pass_of, pass_phase, machine_in, with_ma
 use Rattle.sei_traverse.specs.Phases.{guard_call, store_wanted, take_wanted, undone_as, undone_to, compared, entries_to, outputs_to, word_to, reply_of, copy_bytes, wire_to, verify_copy, send_want}
 use Rattle.sei_traverse.specs.Given.{Given, setting_in}
 use Rattle.sei_traverse.specs.Step.{StepResult, act_in, act_tree, site_of, skipped, goes, goes_on, once, unless_ended, twice, step_as, step_at, traversal_step}
+pub use Rattle.sei_traverse.specs.Workspaces.{KeepsWorkspace}
 use Rattle.sei_traverse.specs.Workspaces.{IsWorkspace, FitsIn}
 use Rattle.sei_traverse.proofs.StepsBound.{always_bound, always_any}
 use Rattle.sei_traverse.proofs.WordsLast.{Lasts, lasts}
@@ -87,13 +88,6 @@ ran_step s i m = by_statement s i m (Always (Ran (parsed_words s.parsed) s.budge
       words = l;
     })
     (keeps s i from st) (lasts s i from st))
-
--- a workspace and the words behind another one, in this space and for these calls
-pub record KeepsWorkspace (k : PassSpace) (parsed : ℕ → Option Parsed) (w : Workspace) (words : List ℕ) (v : Workspace) (left : List ℕ) : Type 0 where
-  pub sealed : v.sealed ≡ w.sealed
-  pub space : v.first.space ≡ w.first.space
-  pub workspace : IsWorkspace w → w.first.space ≡ k → FitsIn k parsed w.sealed → IsWorkspace v
-  pub long : length left ≡ length words
 
 module _ (k : PassSpace) (parsed : ℕ → Option Parsed) where
   behind : (w v u : Workspace) (words left last : List ℕ) → KeepsWorkspace k parsed w words v left → KeepsWorkspace k parsed v left u last → KeepsWorkspace k parsed w words u last

@@ -1,5 +1,5 @@
 -- What every traversal keeps, whatever the answers of the core are.
-use Rattle.std.specs.Prelude.{◌≡◌, ℕ, ◌≤◌, length, Option}
+use Rattle.std.specs.Prelude.{◌≡◌, ℕ, ◌≤◌, List, length, Option}
 use Rattle.sei_stmt.specs.Handling.{Parsed, parsed_words}
 use Rattle.sei_pass.specs.declared.given.Sealed.{Sealed}
 use Rattle.sei_pass.specs.declared.spaces.PassSpace.{PassSpace}
@@ -28,3 +28,11 @@ pub record Stays (w v : Workspace) : Type 0 where
   pub sealed : v.sealed ≡ w.sealed
   pub space : v.first.space ≡ w.first.space
   pub workspace : IsWorkspace w → IsWorkspace v
+
+-- what each step leaves as it is, in this space and for these calls: the seal, the space, how many words are lent, and that the
+-- workspace keeps its rooms if the input words of the call fit
+pub record KeepsWorkspace (k : PassSpace) (parsed : ℕ → Option Parsed) (w : Workspace) (words : List ℕ) (v : Workspace) (left : List ℕ) : Type 0 where
+  pub sealed : v.sealed ≡ w.sealed
+  pub space : v.first.space ≡ w.first.space
+  pub workspace : IsWorkspace w → w.first.space ≡ k → FitsIn k parsed w.sealed → IsWorkspace v
+  pub long : length left ≡ length words

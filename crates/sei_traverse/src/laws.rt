@@ -49,7 +49,7 @@ pub fn traversals_end()
 /// What is known of a traversal that one strike at most has struck is known where it begins, for every
 /// handler, input and list of words. It stays known where the words that were taken are lent when they
 /// are wanted, and where they are lent no more once the bucket is given back: the gate has closed two
-/// phases then, and nine. Where no strike fell, it is on its way. That it stays known after each step is
+/// phases then, and nine. If no strike fell, it is on its way. That it stays known after each step is
 /// the law `one_strike_is_isolated`, and the clause `isolated` of `Traversal::step`.
 pub fn faults_are_isolated()
     ensures begins { (e : CallContext) (c : Counts) → FaultInvariant e (begun_traversal e.space e.sealed) None c c }
@@ -75,7 +75,7 @@ pub fn one_strike_is_isolated<K: Core>()
 {}
 
 /// Over all steps of a traversal that are isolated, `Take`, `Enter`, `Give` and `Send` are wanted in this
-/// order, each once at most, and where more than `Take` was wanted, its bucket is the call's. Where it is
+/// order, each once at most, and where more than `Take` was wanted, its bucket is the call's. If it is
 /// finished, all of them were wanted, but for `Send` where its reply is empty; and where it is refused,
 /// none was.
 pub fn wants_come_once()
@@ -143,7 +143,7 @@ pub fn steps_are_bounded()
 
 /// Without a strike, from the want of Enter on, both passes were made: the words are those that an
 /// honest run leaves, which is by the noted time where one was noted, the reply and the copy for the
-/// wire are its output, and at least twice as many questions were asked as it asks with the test behind
+/// wire are its output, and at least twice as many questions were asked as it asks with the test after
 /// `Halt` that closes its phase.
 pub fn both_passes_are_made()
     ensures entered { (e : CallContext) (t : TraversalState) (lent : Option (List ℕ)) (begin now : Counts) →

@@ -30,7 +30,7 @@ fn has_call<H: Handler>(hands: &H, input: &[u8], nth: Coded) -> bool
     }
 }
 
-/// The bucket of this call, or 0 where the input has no such call.
+/// The bucket of this call, or 0 if the input has no such call.
 fn bucket_of_call<H: Handler>(hands: &H, input: &[u8], nth: Coded) -> u64
     ensures { result ≡ bucket_or_zero (parsed_bucket (sealed_call ((H.behavior hands.now).parsed input.now) nth)) }
 {
@@ -58,7 +58,7 @@ impl Workspace {
         }
     }
 
-    /// Guard, behind the test of the input's code.
+    /// Guard, after the test of the input's code.
     fn guard_call<H: Handler, K: Core>(&mut self, hands: &H, input: &[u8], core: &mut K) -> Ending
         ensures act { (space : PassSpace) (lent : Option ℕ) →
             ActsAlone K.gives (guard_call (given_of (H.behavior hands.now) input.now space lent)) self.old core.old self.new core.new result }

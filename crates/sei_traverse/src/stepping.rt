@@ -15,7 +15,7 @@ use sei_outside::Clock;
 use sei_pass::{PassSpace, Slots};
 use sei_stmt::Handler;
 
-/// The phase behind this one; behind the last one there is none.
+/// The phase after this one; after the last one there is none.
 pub fn next_phase(phase: Phase) -> Phase
     ensures { result ≡ next_phase phase }
 {
@@ -50,7 +50,7 @@ fn is_end(place: Place) -> bool
     place.phase.number() == 10 && place.index == 1
 }
 
-/// How a step ends that arrives at this place, with so many closed phases.
+/// How a step ends that arrives at this place, with n closed phases.
 pub fn arrive(phase: Phase, place: Place, done: u64) -> State
     ensures { result ≡ arrival phase place done }
 {
@@ -68,7 +68,7 @@ pub fn arrive(phase: Phase, place: Place, done: u64) -> State
     }
 }
 
-/// Another step than one of a pass, where its phase has it.
+/// Another step than one of a pass, if its phase has it.
 fn plain_below(steps: u64, index: u64) -> Option<Act>
     ensures act { result ≡ plain_below steps index }
     ensures below { IfSome result (λ _. index < steps) }
@@ -81,7 +81,7 @@ fn plain_below(steps: u64, index: u64) -> Option<Act>
 }
 
 impl Workspace {
-    /// What the step at this place is told as, or `None` where the place is no step of its phase.
+    /// What the step at this place is told as, or `None` if the place is no step of its phase.
     #[inline(always)]
     fn site<H: Handler>(&self, hands: &H) -> Option<Act>
         requires { IsWorkspace self.now }
@@ -102,7 +102,7 @@ impl Workspace {
         }
     }
 
-    /// Whether no further step of the phase comes behind this one, which is told as `act`.
+    /// Whether no further step of the phase comes after this one, which is told as `act`.
     fn is_last(&self, act: Act) -> bool
         requires { IsWorkspace self.now }
         ensures { result ≡ is_last self.now self.now.place.phase self.now.place.index act }
@@ -150,7 +150,7 @@ impl Workspace {
         arrive(phase, self.place, self.gate.done)
     }
 
-    /// Goes on behind an act, unless that ended the traversal.
+    /// Goes on after an act, unless that ended the traversal.
     #[inline(always)]
     pub fn go_on<K: Core>(&mut self, ending: Ending, core: &mut K) -> State
         ensures gone { (words : List ℕ) → Runs K.gives (goes_from self.old words ending) core.old core.new (step_result self.new words result) }

@@ -46,7 +46,7 @@ impl Model for Traversal {
     ghost invariant = { λ t. IsTraversal (record { workspace = t.workspace; space = t.space; steps = t.steps; running = t.running }) };
 }
 
-/// After so many steps a run stops, so that it ends whatever the core answers.
+/// A run stops after this number of steps, so that it ends whatever the core answers.
 const MOST_BEFORE: u64 = 1 << 32;
 
 /// How many steps a traversal makes at most, with one strike at most.
@@ -158,7 +158,7 @@ impl Traversal {
         self.space.bytes
     }
 
-    /// The time that the first pass was told and noted, where the note reads.
+    /// The time that the first pass was told and noted, if the note reads.
     pub fn now(&self) -> Option<u64>
         ensures noted { result ≡ noted_time self.now }
         ensures small { IfSome (noted_time self.now) (λ time. time < 2 ^ 64) }
@@ -170,7 +170,7 @@ impl Traversal {
     }
 
     /// Makes one step, with each of its effects asked of `core`. `lent` are the words of the bucket
-    /// that is lent, where one is.
+    /// that is lent, if one is.
     #[inline(always)]
     pub fn step<H: Handler, K: Core, C: Clock>(
         &mut self,

@@ -5,7 +5,7 @@ ghost use Rattle.sei_traverse.specs.Running.{quiet};
 
 use sei_fault::{AbortCause, Phase};
 
-/// What a step wants of the caller. A want is to be met in any case, also where the same step aborts.
+/// What a step wants of the caller. A want is to be met in any case, also if the same step aborts.
 #[derive(Clone, Copy, Debug, PartialEq, Eq)]
 pub enum Want {
     /// Nothing.
