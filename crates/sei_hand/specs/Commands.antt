@@ -9,8 +9,10 @@ use Rattle.sei_stmt.specs.Programs.{Prog, Block, Seq, halves, table_of}
 use Rattle.tab_find.specs.Inputs.{noreply_index}
 use Rattle.tab_find.specs.Registers.{r_zero, r_index, r_verb, r_noreply, r_number}
 use Rattle.tab_find.specs.FindPrograms.{moment_program}
-use Rattle.tab_store.specs.Programs.{set_program}
-use Rattle.tab_read.specs.Programs.{get_program, delete_program, fixed_program}
+use Rattle.tab_store.specs.declared.commands.Part.TheVariants as store
+use Rattle.tab_store.specs.Programs as storing
+use Rattle.tab_read.specs.declared.commands.Part.TheVariants as read
+use Rattle.tab_read.specs.Programs as reading
 
 -- a command that requests may ask for: its number, and its program
 pub record Row : Type 0 where
@@ -19,10 +21,10 @@ pub record Row : Type 0 where
 
 abbrev pub rows : List Row
 rows =
-    record { number = verb_number Set; program = set_program } ∷
-    record { number = verb_number Get; program = get_program } ∷
-    record { number = verb_number Delete; program = delete_program } ∷
-    record { number = verb_number Fixed; program = fixed_program } ∷ []
+    record { number = verb_number Set; program = storing.part_program store.Set } ∷
+    record { number = verb_number Get; program = reading.part_program read.Get } ∷
+    record { number = verb_number Delete; program = reading.part_program read.Delete } ∷
+    record { number = verb_number Fixed; program = reading.part_program read.Fixed } ∷ []
 
 -- the program of a number, which is empty if no request may ask for that command
 abbrev pub program_in : List Row → ℕ → Prog

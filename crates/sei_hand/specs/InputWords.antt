@@ -8,13 +8,14 @@ use Rattle.mc_model.specs.Call.{Call, verb_number}
 use Rattle.mc_model.specs.Packed.{words_for, pack}
 use Rattle.tab_find.specs.Calls.{mark}
 
--- the hash of the key, where the command is one on a key
+-- the hash of the key, if the command is one on a key
 abbrev pub hash_word : Verb → List ℕ → ℕ
 hash_word Flush key = 0
 hash_word Fixed key = 0
 hash_word verb key = fnv64 key
 
--- words 0 to 13: the fields, and how many words the key and the block take. Fields that the command has not are 0.
+-- words 0 to 13: the fields, and how many words the key and the block take. Fields that the command does not have are
+-- 0.
 abbrev pub field_words : Call → List ℕ
 field_words c =
     verb_number c.verb ∷ length c.key ∷ hash_word c.verb c.key ∷ c.flags ∷ mark c.negative ∷ c.exptime ∷ c.unique ∷ c.value ∷ length c.block

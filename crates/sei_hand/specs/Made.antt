@@ -1,4 +1,4 @@
--- The hands of a geometry.
+-- When a handler belongs to its geometry.
 use Rattle.std.specs.Prelude.{◌≡◌, List}
 use Rattle.mc_model.specs.declared.geometry.Geometry.{Geometry}
 use Rattle.mc_model.specs.Server.{IsValid}

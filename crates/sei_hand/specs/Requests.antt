@@ -14,7 +14,7 @@ use Rattle.sei_hand.specs.InputWords.{input_words}
 abbrev pub limits_of : Geometry → Limits
 limits_of g = record { buckets = g.buckets; value_bytes = 8 * g.value_words }
 
--- the request at the front, where it takes all the bytes
+-- the request at the front, if it takes all the bytes
 abbrev pub if_whole : List ℕ → Option (ℕ × Meaning) → Option Meaning
 if_whole bytes None = None
 if_whole bytes (Some p) = if p.0 == length bytes then Some p.1 else None
@@ -31,7 +31,7 @@ calls_in l bytes = option_map (calls_of l.buckets) (request_of l bytes)
 abbrev pub call_in : Limits → List ℕ → ℕ → Option Placed
 call_in l bytes nth = option_and_then (λ calls. slice_get calls nth) (calls_in l bytes)
 
--- a call that is there
+-- a call if there is one, else the blank call
 abbrev pub call_or_blank : Option Placed → Call
 call_or_blank None = blank Fixed
 call_or_blank (Some p) = p.call

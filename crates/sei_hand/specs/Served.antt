@@ -1,4 +1,4 @@
--- What the table serves.
+-- What the table does for which calls.
 use Rattle.std.specs.Prelude.{ℕ, ◌≤◌, List, length}
 use Rattle.mc_model.specs.declared.geometry.Geometry.{Geometry}
 use Rattle.mc_model.specs.Answer.{answer}

@@ -1,4 +1,4 @@
-//! The program of all commands. The error of each call is that memory ran out.
+//! The program of all commands. The error of each call is out of memory.
 ghost use Rattle.std.specs.Prelude.{◌≡◌, IfOk, map};
 ghost use Rattle.mc_model.specs.Server.{IsValid};
 ghost use Rattle.sei_stmt.specs.Written.{prog_of};
@@ -13,7 +13,7 @@ use tab_find::registers::{INDEX, NOREPLY, NUMBER, VERB, ZERO};
 use tab_find::statements::{input, set};
 use tab_find::{inputs, moment};
 
-/// All commands, in order of their numbers.
+/// All commands, in the order of their numbers.
 const VERBS: [Verb; 16] = [
     Verb::Set,
     Verb::Add,
@@ -46,7 +46,7 @@ fn program(alloc: Global, verb: Verb) -> Result<Program, Memory>
     }
 }
 
-/// The programs of all commands, in order of their numbers.
+/// The programs of all commands, in the order of their numbers.
 fn programs(alloc: Global) -> Result<Vec<Program>, Memory>
     ensures { IfOk result (λ ps. map prog_of ps.items ≡ commands.programs) }
 {

@@ -42,7 +42,7 @@ fn verb_number(verb: Verb) -> u64
     }
 }
 
-/// The hash of the call's key, or 0 where its command has no key.
+/// The hash of the call's key, or 0 if its command has no key.
 fn hash_word(call: &CallSpan, key: &[u8]) -> u64
     requires { HasKey call.now.verb → call.now.hash ≡ fnv64 key.now }
     ensures { result ≡ hash_word call.now.verb key.now }
@@ -104,8 +104,8 @@ fn push_zeros(count: usize, into: &mut WordList)
     into.extend_from_slice(&ZEROS[..left]);
 }
 
-/// Fills the list, which is emptied first, with the input words of a call. Those of its block are
-/// filled up to `words`.
+/// Fills the list, which is emptied first, with the input words of a call. The words of its block
+/// are filled up with zeros to `words`.
 pub fn fill(call: &CallSpan, input: &[u8], words: u64, into: &mut WordList)
     requires places { IsSpanOf input.now call.now }
     requires hash { HasOwnHash input.now call.now }

@@ -1,4 +1,4 @@
-//! The handler of the service.
+//! The handler of the service, for one geometry.
 ghost use Rattle.std.specs.Prelude.{◌≡◌, ◌↔◌, ◌*◌, ◌<◌, ◌^◌, IfOk, IfSome, IsErrOf};
 ghost use Rattle.std.specs.Option.{option_map};
 ghost use Rattle.mc_model.specs.Server.{IsValid};
@@ -39,8 +39,8 @@ impl From<Memory> for HandsError {
     }
 }
 
-/// The handler of a memcached of one geometry, for which it stands. An input is a request of the
-/// text protocol, and a call of it one command on one key.
+/// The handler of a memcached of one geometry. An input is a request of the text protocol, and a
+/// call of it is one command on one key.
 #[derive(Drop)]
 pub struct Hands {
     geometry: Geometry,
@@ -59,7 +59,7 @@ impl Model for Hands {
 }
 
 impl Hands {
-    /// The handler for this geometry. The errors are a geometry out of its limits, and want of
+    /// The handler for this geometry. The errors are a geometry out of its limits, and out of
     /// memory.
     pub fn new(alloc: Global, geometry: Geometry) -> Result<Hands, HandsError>
         ensures made { IfOk result (λ hands. hands ≡ geometry) }
@@ -130,7 +130,8 @@ impl Handler for Hands {
     }
 }
 
-/// The words of a bucket stand for a bucket of the model, and a run starts on such words.
+/// The model: the words of a bucket stand for a bucket of the plain server, and a run starts on
+/// such words.
 impl Modeled for Hands {
     ghost use Rattle.mc_model.specs.Bucket.{Bucket};
     ghost use Rattle.sei_hand.specs.Served.{Stands, answer_of, space_for};

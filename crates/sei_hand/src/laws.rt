@@ -1,4 +1,4 @@
-//! Laws of the definitions, each the clause of a function that does nothing.
+//! Laws of the definitions, each a clause of a function that does nothing.
 
 ghost use Rattle.std.specs.Prelude.{◌≡◌, ℕ, ◌<◌, ◌≤◌, ◌*◌, ◌^◌, List, length, map, All, Some, None, slice_get};
 ghost use Rattle.mc_model.specs.declared.geometry.Geometry.{Geometry};
@@ -33,7 +33,7 @@ pub fn requests_are_spelled()
     ensures none { (l : Limits) (bytes : List ℕ) → ((m : Meaning) → Spells l bytes m → ⊥) → request_of l bytes ≡ None }
 {}
 
-/// What a pass is given belongs to a call that was read.
+/// What a pass is given belongs to a call that was read from the input.
 pub fn calls_are_read()
     ensures call { (g : Geometry) (bytes : List ℕ) (nth : ℕ) (p : Placed) →
         IsValid g → call_in (limits_of g) bytes nth ≡ Some p → IsReadCall g p }
@@ -48,8 +48,8 @@ pub fn calls_are_read()
     ensures words { (g : Geometry) (p : Placed) → IsReadCall g p → length (input_words g p.call) ≡ input_room g }
 {}
 
-/// The calls of an input are those whose numbers are below their number, and each is for a bucket
-/// of the geometry. The table parses the input before all else.
+/// The calls of an input are numbered from 0 without gaps, and each is for a bucket of the
+/// geometry. The table parses the input first.
 pub fn calls_are_counted()
     ensures counted { (g : Geometry) (bytes : List ℕ) (nth count : ℕ) →
         count_of_calls g bytes ≡ Some count → nth < count → (p : Parsed) × (parsed_call g bytes nth ≡ Some p) }
@@ -65,28 +65,28 @@ pub fn commands_have_programs()
     ensures { map (λ r. r.number) rows ≡ read_numbers }
 {}
 
-/// The room for input words is the place of a block and the words of the longest one.
+/// The number of words before a block, by which rooms are counted, is the index of the block.
 pub fn blocks_stand_last()
     ensures { words_before_block ≡ block_index }
 {}
 
-/// Words of 64 bits that stand for a bucket stand for one whose numbers are of 64 bits: each is a word.
+/// If words of 64 bits stand for a bucket, its numbers are of 64 bits too.
 pub fn words_are_bounded()
     ensures { (g : Geometry) (words : List ℕ) (b : Bucket) → All (λ w. w < 2 ^ 64) words → StandsFor g words b → Stands g words b }
 {}
 
-/// The hands of each valid geometry are sound: from words that stand for a bucket, each honest run of
-/// their table, in the first pass and in the second, halts within its budget and its rooms, and leaves
-/// words that stand for the bucket that the answer leaves, with its reply. Words change in rising order
-/// of their addresses.
+/// The handler of each valid geometry is sound. From words that stand for a bucket, each honest run
+/// of its table, in the first pass and in the second, halts within its budget and its rooms. The
+/// words then stand for the bucket after the call, and the output is the call's reply. Words change
+/// in rising order of their addresses.
 pub fn hands_are_sound()
     ensures { (g : Geometry) → IsValid g →
         IsSound (hands_behavior g) (space_for g) (Stands g) (Stands g)
         (λ input nth b now. answer (room_of g) b now (call_or_blank (call_in (limits_of g) input nth))) }
 {}
 
-/// The hands of each valid geometry are a sound handler for their model: that they are sound, and what
-/// is said of their calls, in one.
+/// The handler of each valid geometry is a sound handler for its model: it is sound, and its calls
+/// are counted as above.
 pub fn hands_are_a_sound_handler()
     ensures { (g : Geometry) → IsValid g →
         IsSoundHandler (hands_behavior g) (space_for g) g.buckets (Stands g) (Stands g) (answer_of g) }

@@ -1,5 +1,5 @@
-//! The service as a handler: the requests of memcached are read into the input words of a pass, and
-//! output words are made into replies.
+//! The service as a handler. It reads requests of memcached into the input words of a pass, and
+//! makes replies from output words.
 #![tactic(auto)]
 
 mod commands;

@@ -9,7 +9,7 @@ use sei_code::Memory;
 use sei_stmt::{Stmt, Table};
 use std::alloc::Global;
 
-/// The table of the commands for buckets of this geometry. The error is that memory ran out.
+/// The table of the commands for buckets of this geometry. The error is out of memory.
 pub fn table_of(alloc: Global, geometry: &Geometry) -> Result<Table, Memory>
     requires { IsValid geometry.now }
     ensures { IfOk result (λ table. table ≡ hands_table geometry.now) }

@@ -45,7 +45,7 @@ fn words_of(alloc: Global, input: &[u8], nth: u64) -> Result<Option<WordList>, H
     }
 }
 
-/// The first index at which another word stands than is wanted: words 0 to 14 are these, word 46 is
+/// The first index at which the word is not the expected one. Words 0 to 14 are these, word 46 is
 /// the block, and the others are 0.
 fn first_wrong(words: &WordList, front: &[u64; 15], block: u64) -> Option<usize> {
     for (i, word) in words.words().iter().enumerate() {

@@ -1,6 +1,6 @@
 -- What commands answer: which output words render to which reply, and what a reply and a change come to.
 use Rattle.std.proofs.Common.{◌≡◌, ◌≢◌, ℕ, zero, suc, ◌+◌, ◌*◌, ◌<◌, ◌≤◌, ◌^◌, Bool, true, false, inl, inr, List, [], ◌∷◌, ◌++◌, length, Option, Some, None, refl, sym, ap, ◌∙◌, subst, arith, length-append, append_assoc, append-nil}
-use Rattle.std.specs.Prelude.{nat_le, slice_index, if◌then◌else◌, slice_index_or, codes}
+use Rattle.std.specs.Prelude.{nat_le, ◌==◌, slice_index, if◌then◌else◌, slice_index_or, codes}
 use Rattle.std.specs.List.{list_all}
 use Rattle.std.specs.Option.{option_map}
 use Rattle.std.specs.Fmt.{decimal}
@@ -15,7 +15,7 @@ use Rattle.mc_model.specs.Bucket.{Item, Bucket, lookup, purged}
 use Rattle.mc_model.specs.Call.{Call}
 use Rattle.mc_model.specs.Outcome.{outcome_of}
 use Rattle.mc_model.specs.Packed.{AreBytes, pack}
-use Rattle.mc_model.specs.Replies.{value_text, end_text}
+use Rattle.mc_model.specs.Replies.{value_text, end_text, unique_text}
 use Rattle.mc_model.specs.Server.{IsValid, room_of}
 use Rattle.mc_model.specs.Texts.{texts, text_line, line, text_count, end_text_number}
 use Rattle.mc_render.specs.Outputs.{text_kind, value_kind}
@@ -76,9 +76,17 @@ text_renders limit n lt =
 pub renders_text : (g : Geometry) (w n : ℕ) → n < text_count → Renders g w (text_words n) (text_line n)
 renders_text g w n lt = record { is = text_renders (8 * g.value_words) n lt; short = omega (arith, text_short n lt) }
 
--- the end, after the last key of a request
+-- a text after the last call of a request
+abbrev pub last_words : ℕ → Bool → List ℕ
+last_words n last = if last then text_words n else []
+
 abbrev pub end_words : Bool → List ℕ
-end_words last = if last then text_words end_text_number else []
+end_words = last_words end_text_number
+
+-- it renders to that text's line
+pub renders_last : (g : Geometry) (w n : ℕ) (last : Bool) → n < text_count → Renders g w (last_words n last) (if last then text_line n else [])
+renders_last g w n true lt = renders_text g w n lt
+renders_last g w n false lt = renders_nothing g w
 
 end_line : text_line end_text_number ≡ line (codes "END")
 unfolding text_line
@@ -95,9 +103,21 @@ end_short false = omega arith
 pub renders_end : (g : Geometry) (w : ℕ) (last : Bool) → Renders g w (end_words last) (end_text last)
 renders_end g w last = record { is = rendered_end (8 * g.value_words) last; short = omega (arith, end_short last) }
 
--- an item, without its cas unique
-abbrev pub item_words : List ℕ → Item → List ℕ
-item_words key x = value_kind ∷ 0 ∷ length key ∷ x.flags ∷ length x.value ∷ x.unique ∷ (pack key ++ pack x.value)
+-- an item, with its cas unique or without it
+abbrev pub item_words : Bool → List ℕ → Item → List ℕ
+item_words shown key x = value_kind ∷ mark shown ∷ length key ∷ x.flags ∷ length x.value ∷ x.unique ∷ (pack key ++ pack x.value)
+
+mark_is : (shown : Bool) → (mark shown == 1) ≡ shown
+mark_is true = refl
+mark_is false = refl
+
+mark_small : (shown : Bool) → mark shown ≤ 1
+mark_small true = omega arith
+mark_small false = omega arith
+
+unique_short : (shown : Bool) (unique : ℕ) → unique < 2 ^ 64 → length (unique_text shown unique) ≤ 21
+unique_short true unique small = omega (arith, length-append (codes " ") (decimal unique), length-decimal-le 20 unique (omega arith) (omega (arith, small)) small)
+unique_short false unique small = omega arith
 
 -- it can be shown
 pub record CanShow (g : Geometry) (w : ℕ) (key : List ℕ) (x : Item) : Type 0 where
@@ -108,27 +128,30 @@ pub record CanShow (g : Geometry) (w : ℕ) (key : List ℕ) (x : Item) : Type 0
   pub fits : length x.value ≤ 8 * g.value_words
   pub short : length x.value ≤ 8 * w
   pub flags : x.flags < 2 ^ 64
+  pub unique : x.unique < 2 ^ 64
 
-text_length : (key : List ℕ) (x : Item) → length (value_text false key x) ≡ 12 + length key + length (decimal x.flags) + length (decimal (length x.value)) + length x.value
-text_length key x = grind (arith, length-append)
+text_length : (shown : Bool) (key : List ℕ) (x : Item) → length (value_text shown key x) ≡ 12 + length key + length (decimal x.flags) + length (decimal (length x.value)) + length (unique_text shown x.unique) + length x.value
+text_length shown key x = grind (arith, length-append)
 
-pub renders_item : (g : Geometry) (w : ℕ) (key : List ℕ) (x : Item) (last : Bool) → IsValid g → CanShow g w key x → Renders g w (item_words key x ++ end_words last) (value_text false key x ++ end_text last)
-renders_item g w key x last valid h =
+pub renders_item : (g : Geometry) (w : ℕ) (shown : Bool) (key : List ℕ) (x : Item) (last : Bool) → IsValid g → CanShow g w key x → Renders g w (item_words shown key x ++ end_words last) (value_text shown key x ++ end_text last)
+renders_item g w shown key x last valid h =
     let limit = 8 * g.value_words in
     let digits : length x.value < 2 ^ 64 = omega (arith, h.fits, valid.few_words) in
     record {
-      is = ap (λ ws. rendered limit (value_kind ∷ 0 ∷ length key ∷ x.flags ∷ length x.value ∷ x.unique ∷ ws)) (append_assoc (pack key) (pack x.value) (end_words last))
-          ∙ rendered_value limit 0 key x (end_words last) (omega arith) h.key_bytes h.some_key h.short_key h.bytes h.fits
-          ∙ ap (option_map (λ bs. value_text false key x ++ bs)) (rendered_end limit last);
+      is = ap (λ ws. rendered limit (value_kind ∷ mark shown ∷ length key ∷ x.flags ∷ length x.value ∷ x.unique ∷ ws)) (append_assoc (pack key) (pack x.value) (end_words last))
+          ∙ rendered_value limit (mark shown) key x (end_words last) (mark_small shown) h.key_bytes h.some_key h.short_key h.bytes h.fits
+          ∙ ap (λ q. option_map (λ bs. value_text q key x ++ bs) (rendered limit (end_words last))) (mark_is shown)
+          ∙ ap (option_map (λ bs. value_text shown key x ++ bs)) (rendered_end limit last);
       short = omega (
         arith,
-        length-append (value_text false key x) (end_text last),
-        text_length key x,
+        length-append (value_text shown key x) (end_text last),
+        text_length shown key x,
+        unique_short shown x.unique h.unique,
         end_short last,
         h.short,
         h.short_key,
         length-decimal-le 20 x.flags (omega arith) (omega (arith, h.flags)) h.flags,
-        length-decimal-le 20 (length x.value) (omega arith) (omega (arith, digits)) digits,
+        length-decimal-le 5 (length x.value) (omega arith) (omega (arith, h.fits, valid.few_words)) digits,
       );
     }
 
@@ -242,6 +265,28 @@ begun_framed u g ws b c s t k f h =
       empty = f.out k.out ∙ h.empty;
       constants = constants_framed u g b.moment s t k.constants f h.constants;
       noreply = f.regs r_noreply k.noreply ∙ h.noreply;
+    }
+
+-- The words are as they were, but for the moment, and the reply may be rendered.
+
+pub record IsStill (g : Geometry) (ws : List ℕ) (b : Bucket) (s : RunState) : Type 0 where
+  pub same : s.words ≡ ws
+  pub constants : HasConstants g b.moment s
+  pub low : s.floor ≤ 1
+  pub few : s.stores ≤ 1
+  pub may : MayRender s.stage
+
+pub begun_still : (g : Geometry) (ws : List ℕ) (b : Bucket) (c : Call) (s : RunState) → HasBegun g ws b c s → IsStill g ws b s
+begun_still g ws b c s h = record { same = h.same; constants = h.constants; low = h.low; few = h.few; may = ap may_render h.time }
+
+pub still_framed : (u : Touch) (g : Geometry) (ws : List ℕ) (b : Bucket) (s t : RunState) → KeepsConstants u → u.words ≡ false → u.stage ≡ false → Framed u s t → IsStill g ws b s → IsStill g ws b t
+still_framed u g ws b s t k dry still f q =
+    record {
+      same = f.words dry ∙ q.same;
+      constants = constants_framed u g b.moment s t k f q.constants;
+      low = omega (arith, f.still dry, q.low);
+      few = omega (arith, f.stores dry, q.few);
+      may = ap may_render (f.stage still) ∙ q.may;
     }
 
 -- the find does

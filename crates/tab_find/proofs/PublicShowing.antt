@@ -1,7 +1,9 @@
 -- What the programs do that read an item and make output words.
+use Rattle.std.specs.Prelude.{slice_index}
 use Rattle.std.proofs.Common.{◌≡◌, ℕ, ◌+◌, ◌*◌, ◌%◌, ◌^◌, ◌<◌, ◌≤◌, Bool, true, false, List, [], ◌∷◌, ◌++◌, length, refl, sym, ap, ◌∙◌, subst, arith, append_assoc}
 use Rattle.mc_model.specs.declared.geometry.Geometry.{Geometry}
 use Rattle.mc_model.specs.Bucket.{Item, Bucket}
+use Rattle.mc_model.specs.Call.{Call}
 use Rattle.mc_model.specs.Packed.{words_for, pack}
 use Rattle.mc_model.specs.Server.{IsValid}
 use Rattle.mc_model.proofs.PublicPacking.{length_pack}
@@ -11,16 +13,17 @@ use Rattle.sei_words.specs.Stored.{StoredAt}
 use Rattle.sei_words.specs.Value.{HasValue}
 use Rattle.sei_words.proofs.PublicLayout.{slot_within, width_is, field_within, few_words}
 use Rattle.sei_stmt.specs.Runs.{Given, RunState, tick, write}
-use Rattle.sei_stmt.specs.Programs.{Prog, RepeatLt, Ends, HasWord, Post}
+use Rattle.sei_stmt.specs.Programs.{Prog, RepeatLt, Ends, HasWord, IsParsed, Post}
 use Rattle.sei_stmt.proofs.Public.{then_so}
 use Rattle.tab_find.specs.Answers.{HasConstants}
-use Rattle.tab_find.specs.Calls.{mark}
+use Rattle.tab_find.specs.Calls.{IsCall, mark}
 use Rattle.tab_find.specs.Found.{IsPresent, HasKeyLoaded}
-use Rattle.tab_find.specs.Registers.{r_zero, r_one, r_place, r_address, r_limit, r_passed, r_flags, r_unique, r_value_length, r_noreply, r_eight}
-use Rattle.tab_find.specs.ShowPrograms.{Sink, Out, read_run, load_item, read_value, say, if_wanted}
+use Rattle.tab_find.specs.Inputs.{unique_index}
+use Rattle.tab_find.specs.Registers.{r_zero, r_one, r_place, r_address, r_word, r_other, r_limit, r_passed, r_flags, r_unique, r_value_length, r_noreply, r_eight}
+use Rattle.tab_find.specs.ShowPrograms.{Sink, Out, read_run, load_item, load_uniques, read_value, say, if_wanted}
 use Rattle.tab_find.proofs.MachineLaws.{sum_is, word_is}
 use Rattle.tab_find.proofs.ReadLoops.{Told, Made, MayTell, tell_same, value_turn, told_tick, runner, value_turn_within, none_read, all_read, run_ends, pass_ends}
-pub use Rattle.tab_find.proofs.ReadLoops.{told, told_count, told_room, is_output, Told, Made, CanTell, MayTell, reader, runner, item_loader, sayer, run_within, value_within}
+pub use Rattle.tab_find.proofs.ReadLoops.{told, told_count, told_room, is_output, Told, Made, CanTell, MayTell, reader, runner, item_loader, uniques_loader, sayer, run_within, value_within}
 
 -- A text, and what is said if a reply is wanted.
 
@@ -109,6 +112,28 @@ module _ (g : Geometry) (e : Given) (ws : List ℕ) (b : Bucket) (key : List ℕ
     pub unique : t.regs r_unique ≡ x.unique
     pub value_length : t.regs r_value_length ≡ length x.value
     pub key_words : IsRun ws (pack key) (t.regs r_address) (t.regs r_limit)
+
+  -- its cas unique and the one that the call names are in the registers
+  pub record UniquesLoaded (c : Call) (bound : ℕ) (t : RunState) : Type 0 where
+    pub steps : t.steps ≤ bound
+    pub of_item : t.regs r_word ≡ x.unique
+    pub of_call : t.regs r_other ≡ c.unique
+
+  pub load_uniques_ends : (s : RunState) (c : Call) (bound : ℕ) → IsPresent g ws b key x (s.regs r_place) → IsCall e.input c → IsParsed s.stage → s.words ≡ ws → s.steps + 5 ≤ bound → Ends e load_uniques s (UniquesLoaded c bound)
+  load_uniques_ends s c bound p call parsed same steps = (
+    slot_at g p.slot + unique_offset,
+    sum_is _ _ _ (omega (arith, p.begins)) (field_small g valid ws stands.size p.slot p.within unique_offset (omega arith)),
+    (
+      x.unique,
+      field_word g valid ws stands.size p.slot p.within s.words unique_offset x.unique same p.reads.unique (omega arith),
+      (
+        parsed,
+        slice_index e.input unique_index,
+        word_is e.input unique_index unique_index refl (omega (arith, call.block.room)),
+        record { steps = omega (arith, steps); of_item = refl; of_call = call.unique },
+      ),
+    ),
+  )
 
   pub load_item_ends : (s : RunState) (bound : ℕ) → IsPresent g ws b key x (s.regs r_place) → 1 ≤ length key → HasKeyLoaded key s → HasConstants g b.moment s → s.words ≡ ws → s.steps + 10 ≤ bound → Ends e load_item s (ItemLoaded bound)
   load_item_ends s bound p some loaded constants same steps = (

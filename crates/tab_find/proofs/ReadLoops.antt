@@ -11,7 +11,7 @@ use Rattle.sei_stmt.specs.Runs.{Given, RunState, tick, write, emit}
 use Rattle.sei_stmt.specs.Programs.{Prog, Block, RepeatLt, Ends, BeforeAll, IsOpen, HasWord, Post}
 use Rattle.sei_stmt.specs.Touch.{Touch, within}
 use Rattle.sei_stmt.proofs.Public.{repeat, put_other}
-use Rattle.tab_find.specs.Registers.{r_one, r_address, r_word, r_limit, r_passed, r_flags, r_unique, r_value_length, r_eight}
+use Rattle.tab_find.specs.Registers.{r_one, r_address, r_word, r_index, r_other, r_limit, r_passed, r_flags, r_unique, r_value_length, r_eight}
 use Rattle.tab_find.specs.ShowPrograms.{Sink, Out, sink_stmt, read_run, read_value}
 use Rattle.tab_find.proofs.MachineLaws.{sum_is, word_is}
 use Rattle.tab_find.proofs.StoreValue.{value_registers}
@@ -81,6 +81,10 @@ runner k = record { regs = λ r. nat_eq r r_address || nat_eq r r_word || nat_eq
 -- an address, an end, and the fields of an item
 abbrev pub item_loader : Touch
 item_loader = record { regs = λ r. nat_eq r r_address || nat_eq r r_limit || nat_eq r r_flags || nat_eq r r_unique || nat_eq r r_value_length; words = false; out = false; stage = false }
+
+-- two words, an address and the index of an input word
+abbrev pub uniques_loader : Touch
+uniques_loader = record { regs = λ r. (nat_eq r r_address || nat_eq r r_word) || (nat_eq r r_index || nat_eq r r_other); words = false; out = false; stage = false }
 
 -- a word of scratch, and output words
 abbrev pub sayer : Touch

@@ -1,4 +1,4 @@
--- Where a command begins, and what it comes to.
+-- The state in which a command begins, and the state in which it ends.
 use Rattle.std.specs.Prelude.{◌≡◌, ℕ, ◌+◌, ◌*◌, ◌^◌, ◌<◌, ◌≤◌, All, List, [], length, Some, if◌then◌else◌}
 use Rattle.mc_model.specs.declared.geometry.Geometry.{Geometry}
 use Rattle.mc_model.specs.declared.call.Verb.{Verb}
@@ -19,7 +19,7 @@ use Rattle.tab_find.specs.Calls.{IsCall, mark}
 use Rattle.tab_find.specs.Fit.{FitIsAnswer}
 use Rattle.tab_find.specs.Registers.{r_zero, r_moment, r_one, r_expiry_offset, r_width, r_end, r_noreply}
 
--- Numbers of 64 bits.
+-- numbers of 64 bits
 
 pub record HasNumbersOf64 (x : Item) : Type 0 where
   pub flags : x.flags < 2 ^ 64
@@ -41,8 +41,8 @@ pub record IsAsked (g : Geometry) (c : Call) : Type 0 where
   pub exptime : c.exptime < 2 ^ 64
   pub text : c.text < text_count
 
--- What stays while a command runs: a valid geometry, words that stand for a bucket, the input words of a call, and rooms for a
--- value of w words, as many at least as the call's block and its key's item have.
+-- What does not change while a command runs: a valid geometry, words that stand for a bucket, the input words of a
+-- call, and rooms. The rooms are for a value of w words, and the call's block and its key's item have at most w.
 pub record CanAnswer (g : Geometry) (e : Given) (ws : List ℕ) (b : Bucket) (c : Call) (w : ℕ) : Type 0 where
   pub valid : IsValid g
   pub stands : StandsFor g ws b
@@ -68,7 +68,7 @@ pub record Constants (g : Geometry) (m : ℕ) (r0 r1 r2 r3 r4 r5 : ℕ) : Type 0
 abbrev pub HasConstants : Geometry → ℕ → RunState → Type 0
 HasConstants g m s = Constants g m (s.regs r_zero) (s.regs r_moment) (s.regs r_one) (s.regs r_expiry_offset) (s.regs r_width) (s.regs r_end)
 
--- after the moment and the call's marks: word 0 alone may have been stored, and nothing was said
+-- after the moment and the call's marks: word 0 alone may have been stored, and there is no output
 pub record Begun (g : Geometry) (ws : List ℕ) (b : Bucket) (c : Call) (words : List ℕ) (stage floor stores emitted : ℕ) (out : List ℕ) (r0 r1 r2 r3 r4 r5 r26 : ℕ) : Type 0 where
   pub same : words ≡ ws
   pub time : stage ≡ timed
@@ -79,7 +79,7 @@ pub record Begun (g : Geometry) (ws : List ℕ) (b : Bucket) (c : Call) (words :
   pub constants : Constants g b.moment r0 r1 r2 r3 r4 r5
   pub noreply : r26 ≡ mark c.noreply
 
--- the same of a state. A tick, and a write of any other register, leave this very type
+-- the same of a state. A tick, and a write of any other register, do not change this type
 abbrev pub HasBegun : Geometry → List ℕ → Bucket → Call → RunState → Type 0
 HasBegun g ws b c s =
     Begun g ws b c s.words s.stage s.floor s.stores s.emitted s.out (s.regs r_zero) (s.regs r_moment) (s.regs r_one) (s.regs r_expiry_offset) (s.regs r_width) (s.regs r_end) (s.regs r_noreply)
@@ -96,7 +96,7 @@ pub record Renders (g : Geometry) (w : ℕ) (out reply : List ℕ) : Type 0 wher
   pub is : rendered (8 * g.value_words) out ≡ Some reply
   pub short : length reply ≤ 8 * w + 320
 
--- the reply was said, and nothing else happened: the words, the stage and the constants are as they were
+-- the output is the reply, and nothing else happened: the words, the stage and the constants are as they were
 pub record Replied (g : Geometry) (b : Bucket) (c : Call) (w bound : ℕ) (t : RunState) : Type 0 where
   pub steps : t.steps ≤ bound
   pub reply : Renders g w t.out (reply_at g b c)

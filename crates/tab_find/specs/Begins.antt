@@ -1,4 +1,4 @@
--- What each program that commands share begins from, and where its law says that it leads.
+-- The state in which each shared program begins, and the state to which its law says that it leads.
 use Rattle.std.specs.Prelude.{◌≡◌, ℕ, ◌+◌, ◌≤◌, List, length}
 use Rattle.mc_model.specs.declared.geometry.Geometry.{Geometry}
 use Rattle.mc_model.specs.Bucket.{Item, Bucket}
@@ -14,8 +14,8 @@ use Rattle.tab_find.specs.Fit.{FitIsAnswer}
 use Rattle.tab_find.specs.Found.{IsPresent}
 use Rattle.tab_find.specs.Registers.{r_zero, r_one, r_place, r_address, r_index, r_limit, r_expiry, r_unique}
 
--- From each state that meets From the program ends in one that meets To, within any limits that leave room for these stores and
--- steps: `most` limits the stores and `bound` the statements, and the log has room for `most`
+-- From each state that meets From the program ends in one that meets To, within any limits that leave room for these
+-- stores and steps. `most` limits the stores and `bound` the statements, and the log has room for `most`.
 abbrev pub Leads : Given → Post → Prog → (ℕ → ℕ → Post) → (stores steps : ℕ) → Type 0
 Leads e From p To stores steps =
     (s : RunState) (bound most : ℕ) → From s → s.stores + stores ≤ most → most ≤ e.log_room → s.steps + steps ≤ bound → Ends e p s (To bound most)
@@ -60,12 +60,12 @@ pub record CanChange (g : Geometry) (b : Bucket) (s : RunState) : Type 0 where
   pub constants : HasConstants g b.moment s
   pub low : s.floor ≤ 1
 
--- the bucket can be changed, and the find told where the key's item stands
+-- the bucket can be changed, and the find gave the place of the key's item
 pub record HasFound (g : Geometry) (b : Bucket) (key : List ℕ) (old : Item) (s : RunState) : Type 0 where
   pub can : CanChange g b s
   pub present : IsPresent g s.words b key old (s.regs r_place)
 
--- the item x can be put in the place of the key's item. Its value stands in the input words from `index` on, w at most
+-- the item x can be put in the place of the key's item. Its value is in the input words from `index` on, w at most
 pub record CanPut (g : Geometry) (e : Given) (b : Bucket) (key : List ℕ) (x : Item) (index w : ℕ) (s : RunState) : Type 0 where
   pub old : Item
   pub found : HasFound g b key old s

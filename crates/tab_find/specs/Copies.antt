@@ -1,4 +1,4 @@
--- What the programs that copy input words into the words of a bucket stand on, and what they come to.
+-- What must hold before a program copies input words into the words of a bucket, and what holds after it.
 use Rattle.std.specs.Prelude.{◌≡◌, ◌⊎◌, ℕ, ◌+◌, ◌*◌, ◌^◌, ◌<◌, ◌≤◌, List, length, slice_index}
 use Rattle.mc_model.specs.declared.geometry.Geometry.{Geometry}
 use Rattle.mc_model.specs.Bucket.{Item}
@@ -13,7 +13,7 @@ use Rattle.tab_find.specs.Registers.{r_zero, r_one, r_place, r_flags, r_expiry, 
 
 -- A run of words.
 
--- the first n of these words stand from a on, and all other words are as in ws
+-- the first n of these words are there from a on, and all other words are as in ws
 pub record IsCopied (vs ws : List ℕ) (a n : ℕ) (t : List ℕ) : Type 0 where
   pub size : length t ≡ length ws
   pub there : (j : ℕ) → j < n → slice_index t (a + j) ≡ slice_index vs j
@@ -26,7 +26,7 @@ pub record Copied (vs ws : List ℕ) (a bound most : ℕ) (t : RunState) : Type 
   pub floor : t.floor ≤ a + length vs
   pub copied : IsCopied vs ws a (length vs) t.words
 
--- what the copy stands on: words of the input from `index` on, room for them, and where its registers stand
+-- what must hold before the copy: words of the input from `index` on, room for them, and the contents of its registers
 pub record CanCopy (input : List ℕ) (index : ℕ) (vs ws : List ℕ) (a : ℕ) (words : List ℕ) (stage floor r2 r12 r14 r_end : ℕ) : Type 0 where
   pub some : 1 ≤ length vs
   pub same : words ≡ ws
@@ -44,14 +44,14 @@ pub record CanCopy (input : List ℕ) (index : ℕ) (vs ws : List ℕ) (a : ℕ)
 
 -- The value of a slot.
 
--- the statements that it makes at most, and the stores, for so many words
+-- the most statements that it makes, and the most stores, for n words
 abbrev pub store_steps : ℕ → ℕ
 store_steps n = 5 * n + 6
 
 abbrev pub store_stores : ℕ → ℕ
 store_stores n = n
 
--- what it stands on: the slot's place, and the words of the value among the input words from `index` on
+-- what must hold before it: the slot's place, and the words of the value among the input words from `index` on
 pub record CanStoreValue (g : Geometry) (input : List ℕ) (index i : ℕ) (vs words : List ℕ) (stage floor r0 r2 r10 r22 : ℕ) : Type 0 where
   pub valid : IsValid g
   pub within : i < g.slots
@@ -70,7 +70,7 @@ pub record CanStoreValue (g : Geometry) (input : List ℕ) (index i : ℕ) (vs w
 abbrev pub CanStoreIn : Geometry → Given → ℕ → ℕ → List ℕ → RunState → Type 0
 CanStoreIn g e index i vs s = CanStoreValue g e.input index i vs s.words s.stage s.floor (s.regs r_zero) (s.regs r_one) (s.regs r_place) (s.regs r_value_words)
 
--- after it: the slot has the value, its fields stay, and so does all of the others
+-- after it: the value of slot i was stored, within these limits
 pub record HasStored (g : Geometry) (m : ℕ) (ws : List ℕ) (i : ℕ) (vs : List ℕ) (bound most : ℕ) (t : RunState) : Type 0 where
   pub steps : t.steps ≤ bound
   pub stores : t.stores ≤ most
@@ -78,7 +78,7 @@ pub record HasStored (g : Geometry) (m : ℕ) (ws : List ℕ) (i : ℕ) (vs : Li
 
 -- The item that is to be stored.
 
--- the item x stands in the registers and among the input words from `index` on, but for its unique
+-- the item x is in the registers and among the input words from `index` on, but for its unique
 pub record Loaded (input : List ℕ) (index w : ℕ) (g : Geometry) (x : Item) (r18 r19 r21 r22 : ℕ) : Type 0 where
   pub flags : r18 ≡ x.flags
   pub expiry : r19 ≡ x.expiry

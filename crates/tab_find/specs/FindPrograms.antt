@@ -19,10 +19,10 @@ moment_program g =
     (Seq (IfLt r_word r_moment (Block []) (Seq (Block (Move r_moment r_word ∷ [])) (IfLt r_zero r_moment (Block []) (Block (Move r_moment r_one ∷ [])))))
     (Block (Store r_zero r_moment ∷ [])))
 
--- The find. It walks the slots in order while they begin below the place, which is the end of all slots until one fits, and
--- leaves each at the first word that does not fit.
+-- The find. It tests the slots in order while they begin below the place, which is the end of all slots until one fits.
+-- It leaves each slot at the first word that does not fit.
 
--- one key word against one input word: a word that differs takes the place back and ends the comparison
+-- one key word against one input word: a word that differs resets the place and ends the comparison
 abbrev pub compare_turn : Prog
 compare_turn =
     Seq (Block (Load r_word r_address ∷ Input r_other r_index ∷ []))

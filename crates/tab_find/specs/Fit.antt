@@ -4,7 +4,7 @@ use Rattle.mc_model.specs.declared.geometry.Geometry.{Geometry}
 use Rattle.sei_words.specs.Free.{IsFree, IsFull}
 use Rattle.sei_stmt.specs.Runs.{Given}
 
--- a free slot, or the number of slots where none is free
+-- a free slot, or the number of slots if none is free
 abbrev pub IsAnswer : Geometry → List ℕ → ℕ → ℕ → Type 0
 IsAnswer g words moment slot = ((slot < g.slots) × IsFree g words moment slot) ⊎ ((slot ≡ g.slots) × IsFull g words moment)
 

@@ -1,4 +1,4 @@
--- What the parts of a command come to: what they say of the bucket that the words stand for.
+-- What each part of a command leads to, as facts about the bucket that the words stand for.
 use Rattle.std.specs.Prelude.{◌≡◌, ℕ, ◌<◌, ◌≤◌, ◌⊎◌, List, length, Some, None}
 use Rattle.sei_code.specs.Codes.{fnv64}
 use Rattle.mc_model.specs.declared.geometry.Geometry.{Geometry}

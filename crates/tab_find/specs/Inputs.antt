@@ -1,4 +1,4 @@
--- Where the input words of a call stand.
+-- The indexes of the input words of a call.
 use Rattle.std.specs.Prelude.{ℕ}
 
 abbrev pub verb_index : ℕ
@@ -14,7 +14,7 @@ hash_index = 2
 abbrev pub flags_index : ℕ
 flags_index = 3
 
--- 1 where exptime is negative, else 0, and its absolute value
+-- 1 if exptime is negative, else 0; and its absolute value
 abbrev pub negative_index : ℕ
 negative_index = 4
 

@@ -1,4 +1,4 @@
--- The program of each part that the tables of commands place.
+-- The program of each part.
 use Rattle.mc_model.specs.declared.geometry.Geometry.{Geometry}
 use Rattle.sei_stmt.specs.Programs.{Prog}
 use Rattle.tab_find.specs.declared.fragments.Part.{Part}

@@ -13,7 +13,7 @@ r_moment = 1
 abbrev pub r_one : ℕ
 r_one = 2
 
--- where in a slot its expiry stands
+-- where in a slot its expiry is
 abbrev pub r_expiry_offset : ℕ
 r_expiry_offset = 3
 
@@ -44,8 +44,8 @@ r_place = 10
 abbrev pub r_base : ℕ
 r_base = 11
 
--- 12 to 17 are each program's scratch: an address, a word, the index of an input word, a second word, the end of a run of
--- words, and how many bytes of a value were passed
+-- 12 to 17 are each program's scratch registers: an address, a word, the index of an input word, and a second word. The
+-- last two are the end of a run of words, and how many bytes of a value are done
 
 abbrev pub r_address : ℕ
 r_address = 12

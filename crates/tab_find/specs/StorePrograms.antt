@@ -51,10 +51,10 @@ new_head =
 abbrev pub new_fields : Prog
 new_fields = Seq new_head (Seq (Block (Add r_limit r_index r_key_words ∷ [])) (copy_run r_limit))
 
--- One program for each kind of change that a call can make, and two for an item that is put: one for the whole item, and one
--- for its expiry alone. Each ends a command.
+-- One program for each kind of change that a call can make. An item that is put has two: one for the whole item, and
+-- one for its expiry alone. Each ends a command.
 
--- the next cas unique: the counter goes on by one
+-- the next cas unique: the counter rises by one
 abbrev pub draw : Prog
 draw = Block (Load r_unique r_one ∷ Add r_unique r_unique r_one ∷ Store r_one r_unique ∷ [])
 
@@ -62,7 +62,7 @@ draw = Block (Load r_unique r_one ∷ Add r_unique r_unique r_one ∷ Store r_on
 abbrev pub keep_program : Prog
 keep_program = Block []
 
--- the item in the slot at r_place is replaced by the one in the registers, whose value stands from this input index on
+-- the item in the slot at r_place is replaced by the one in the registers, whose value begins at this input index
 abbrev pub put_program : ℕ → Prog
 put_program index = Seq replace_fields (store_value index)
 
@@ -70,7 +70,7 @@ put_program index = Seq replace_fields (store_value index)
 abbrev pub put_expiry_program : Prog
 put_expiry_program = Block (Add r_address r_place r_expiry_offset ∷ Store r_address r_expiry ∷ [])
 
--- the item in the slot at r_place is replaced by one with a drawn unique, whose value stands from this input index on
+-- the item in the slot at r_place is replaced by one with a drawn unique, whose value begins at this input index
 abbrev pub draw_program : ℕ → Prog
 draw_program index = Seq draw (put_program index)
 
@@ -82,7 +82,7 @@ make_program index = Seq draw (Seq new_fields (store_value index))
 abbrev pub remove_program : Prog
 remove_program = Block (Store r_place r_zero ∷ [])
 
--- one slot becomes free, and the address goes on to the next one
+-- one slot becomes free, and the address becomes that of the next one
 abbrev pub clear_turn : List Stmt
 clear_turn = Store r_address r_zero ∷ Add r_address r_address r_width ∷ []
 

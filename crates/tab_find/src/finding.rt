@@ -1,4 +1,4 @@
-//! The programs of the moment, of the find, and for a free slot. The error of each call is that memory ran out.
+//! The programs of the moment, of the find, and for a free slot. Each error is out of memory.
 ghost use Rattle.std.specs.Prelude.{◌≡◌, IfOk};
 ghost use Rattle.mc_model.specs.Server.{IsValid};
 ghost use Rattle.sei_stmt.specs.Written.{prog_of};

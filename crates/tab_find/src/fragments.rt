@@ -16,9 +16,10 @@ use std::alloc::Global;
 pub enum Part {
     /// Asks for the time, and makes the bucket's moment the largest of 1, the old moment and the time.
     Moment,
-    /// Looks for the call's key: where the slot begins that has it, or the end of all slots.
+    /// Looks for the call's key: the address at which the slot begins that has it, or the end of
+    /// all slots.
     Find,
-    /// Asks for a free slot: where it begins, or the end of all slots.
+    /// Asks for a free slot: the address at which it begins, or the end of all slots.
     Free,
     /// Copies the call's key words, from the index on, to the bucket's words from the address on.
     CopyKey,
@@ -26,7 +27,7 @@ pub enum Part {
     CopyValue,
 }
 
-/// The statements of a part, for buckets of this geometry. The error is that memory ran out.
+/// The statements of a part, for buckets of this geometry. The error is out of memory.
 pub fn fragment(alloc: Global, g: &Geometry, which: Part) -> Result<Fragment, Memory>
     requires { IsValid g.now }
     ensures { IfOk result (λ f. f ≡ flatten (part_program g.now which)) }

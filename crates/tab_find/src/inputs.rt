@@ -1,4 +1,4 @@
-//! Where the input words of a call stand.
+//! The indexes of the input words of a call.
 
 /// The number of the command.
 pub const VERB: u64 = 0;
@@ -12,7 +12,7 @@ pub const HASH: u64 = 2;
 /// The flags.
 pub const FLAGS: u64 = 3;
 
-/// 1 where the exptime is negative, else 0.
+/// 1 if the exptime is negative, else 0.
 pub const NEGATIVE: u64 = 4;
 
 /// The absolute value of the exptime.
@@ -27,10 +27,10 @@ pub const VALUE: u64 = 7;
 /// The length of the block in bytes.
 pub const BLOCK_LENGTH: u64 = 8;
 
-/// 1 where the call is the last one of its request, else 0.
+/// 1 if the call is the last one of its request, else 0.
 pub const LAST: u64 = 9;
 
-/// 1 where no reply is wanted, else 0.
+/// 1 if no reply is wanted, else 0.
 pub const NOREPLY: u64 = 10;
 
 /// The number of a fixed text.

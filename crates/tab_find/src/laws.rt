@@ -1,4 +1,4 @@
-//! What honest runs of each part do, over words that stand for a bucket. Each law is the clause of a function that does nothing.
+//! Laws of honest runs of each part, each a clause of a function that does nothing.
 
 ghost use Rattle.std.specs.Prelude.{ℕ, ◌+◌, ◌*◌, ◌≤◌, List, length};
 ghost use Rattle.mc_model.specs.declared.geometry.Geometry.{Geometry};
@@ -18,13 +18,15 @@ pub fn moment_stands()
     ensures { (g : Geometry) (e : Given) (b : Bucket) → Leads e (JustParsed g b) (moment_program g) (Arrived g e.now b) 1 20 }
 {}
 
-/// The find tells where the slot begins that has the key's item, or the end of all slots exactly if the key has none.
+/// The find gives the place of the slot that has the key's item, or the end of all slots exactly if
+/// the key has none.
 pub fn find_stands()
     ensures { (g : Geometry) (e : Given) (b : Bucket) (key : List ℕ) (s : RunState) (bound : ℕ) → CanFind g e b key s →
         s.steps + 300 * g.slots + 20 ≤ bound → Ends e find_program s (Sought g s.words b key bound) }
 {}
 
-/// The program of a free slot tells where a free slot begins, or the end of all slots exactly if none is free.
+/// The program of a free slot gives the place of a free slot, or the end of all slots exactly if
+/// none is free.
 pub fn free_ends()
     ensures { (g : Geometry) (e : Given) (m : ℕ) (s : RunState) (bound : ℕ) → CanAsk g e m s →
         s.steps + 3 * g.slots + 10 ≤ bound → bound ≤ e.budget → Ends e free_program s (Offered g s.words m bound) }
@@ -36,7 +38,8 @@ pub fn key_is_copied()
         Leads e (CanCopyTo e index vs ws a) (copy_run r_limit) (Copied vs ws a) (length vs) (5 * length vs) }
 {}
 
-/// The copy of a value gives the slot that value; its fields stay, and the fields of all other slots and the values of the taken ones.
+/// The copy of a value gives the slot that value. The fields of all slots stay, and so do the
+/// values of the other taken slots.
 pub fn value_is_stored()
     ensures { (g : Geometry) (e : Given) (ws : List ℕ) (m index i : ℕ) (vs : List ℕ) → Leads e (CanStoreOver g e ws index i vs)
         (store_value index) (HasStored g m ws i vs) (length vs) (store_steps (length vs)) }

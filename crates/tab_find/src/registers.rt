@@ -9,7 +9,7 @@ pub const MOMENT: u8 = 1;
 /// Holds 1.
 pub const ONE: u8 = 2;
 
-/// Where in a slot its expiry stands.
+/// Where in a slot its expiry is.
 pub const EXPIRY_OFFSET: u8 = 3;
 
 /// The number of words of a slot.
@@ -18,7 +18,7 @@ pub const WIDTH: u8 = 4;
 /// The address after the last slot.
 pub const END: u8 = 5;
 
-/// The length of the call's key in bytes. The registers 6 to 9 are loaded by the find.
+/// The length of the call's key in bytes. The registers 6 to 8 are loaded by the find.
 pub const KEY_LENGTH: u8 = 6;
 
 /// The hash of the call's key.
@@ -33,7 +33,7 @@ pub const PLACE: u8 = 10;
 /// The address at which the slot begins that the find looks at.
 pub const BASE: u8 = 11;
 
-/// An address. The registers 12 to 17 are each program's scratch.
+/// An address. The registers 12 to 17 are each program's scratch registers.
 pub const ADDRESS: u8 = 12;
 
 /// A word.
@@ -48,7 +48,7 @@ pub const OTHER: u8 = 15;
 /// The end of a run of words: an address, or the index of an input word.
 pub const LIMIT: u8 = 16;
 
-/// How many bytes of a value were passed.
+/// How many bytes of a value are done.
 pub const PASSED: u8 = 17;
 
 /// The flags of an item.

@@ -1,11 +1,12 @@
-//! The programs that read an item and make output words. The error of each call is that memory ran out.
+//! The programs that read an item and make output words. Each error is out of memory.
 ghost use Rattle.std.specs.Prelude.{◌≡◌, IfOk};
 ghost use Rattle.sei_stmt.specs.Written.{prog_of};
 ghost use Rattle.tab_find.specs.ShowPrograms as programs;
 ghost use Rattle.tab_find.specs.ShowPrograms.{Out};
 
+use crate::inputs;
 use crate::registers::*;
-use crate::statements::{NEXT_ADDRESS, add, copy, load, set};
+use crate::statements::{NEXT_ADDRESS, add, copy, input, load, set};
 use sei_code::Memory;
 use sei_stmt::{Program, Stmt};
 use sei_words::layout;
@@ -42,6 +43,22 @@ pub fn load_item(alloc: Global) -> Result<Program, Memory>
             load(VALUE_LENGTH, ADDRESS),
             NEXT_ADDRESS,
             add(LIMIT, ADDRESS, KEY_WORDS),
+        ],
+    )
+}
+
+/// Loads the cas unique of the item that was found into `WORD`, and the one that the call names into `OTHER`.
+pub fn load_uniques(alloc: Global) -> Result<Program, Memory>
+    ensures { IfOk result (λ p. prog_of p ≡ programs.load_uniques) }
+{
+    Program::block(
+        alloc,
+        &[
+            set(ADDRESS, layout::UNIQUE),
+            add(ADDRESS, PLACE, ADDRESS),
+            load(WORD, ADDRESS),
+            set(INDEX, inputs::UNIQUE),
+            input(OTHER, INDEX),
         ],
     )
 }

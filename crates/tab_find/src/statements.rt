@@ -1,18 +1,18 @@
-//! Statements in one line each.
+//! Statements that several programs use.
 ghost use Rattle.std.specs.Prelude.{◌≡◌};
 ghost use Rattle.sei_stmt.specs.declared.stmt.Stmt.TheVariants as stmt;
 
 use crate::registers::{ADDRESS, INDEX, ONE};
 use sei_stmt::Stmt;
 
-/// The address goes on by one.
+/// The address rises by one.
 pub const NEXT_ADDRESS: Stmt = Stmt::Add {
     to: ADDRESS,
     left: ADDRESS,
     right: ONE,
 };
 
-/// The index of the input word goes on by one.
+/// The index of the input word rises by one.
 pub const NEXT_INDEX: Stmt = Stmt::Add {
     to: INDEX,
     left: INDEX,

@@ -1,4 +1,4 @@
-//! The programs that change the words of a bucket. The error of each call is that memory ran out.
+//! The programs that change the words of a bucket. Each error is out of memory.
 ghost use Rattle.std.specs.Prelude.{◌≡◌, IfOk};
 ghost use Rattle.sei_stmt.specs.Written.{prog_of};
 ghost use Rattle.tab_find.specs.StorePrograms as programs;
@@ -121,15 +121,15 @@ fn draw(alloc: Global) -> Result<Program, Memory>
     )
 }
 
-/// Changes nothing. It ends a command on a key that is there and stays as it is.
+/// Changes nothing. It ends a command on a key that is there and does not change.
 pub fn keep_item(alloc: Global) -> Program
     ensures { prog_of result ≡ programs.keep_program }
 {
     Program::empty(alloc)
 }
 
-/// Replaces the item that was found by the one that is loaded, without a draw; its value stands among the input words from
-/// `index` on.
+/// Replaces the item that was found by the one that is loaded, without a draw. Its value is among
+/// the input words from `index` on.
 pub fn put_item(alloc: Global, index: u64) -> Result<Program, Memory>
     ensures { IfOk result (λ p. prog_of p ≡ programs.put_program index) }
 {
@@ -147,7 +147,8 @@ pub fn put_expiry(alloc: Global) -> Result<Program, Memory>
     )
 }
 
-/// Replaces the item that was found by one with a drawn cas unique, whose value stands among the input words from `index` on.
+/// Replaces the item that was found by one with a drawn cas unique. Its value is among the input
+/// words from `index` on.
 pub fn draw_item(alloc: Global, index: u64) -> Result<Program, Memory>
     ensures { IfOk result (λ p. prog_of p ≡ programs.draw_program index) }
 {
@@ -155,7 +156,8 @@ pub fn draw_item(alloc: Global, index: u64) -> Result<Program, Memory>
     draw(alloc)?.then(alloc, item)
 }
 
-/// Makes a new item with a drawn cas unique in the slot that was given, whose value stands among the input words from `index` on.
+/// Makes a new item with a drawn cas unique in the slot that was given. Its value is among the
+/// input words from `index` on.
 pub fn make_item(alloc: Global, index: u64) -> Result<Program, Memory>
     ensures { IfOk result (λ p. prog_of p ≡ programs.make_program index) }
 {

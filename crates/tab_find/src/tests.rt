@@ -1,4 +1,4 @@
-//! Each part, for the smallest buckets.
+//! How many statements each part and each program has, for the smallest buckets.
 use super::*;
 use mc_model::{Geometry, texts};
 use sei_stmt::{Fragment, Program};

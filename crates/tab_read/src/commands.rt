@@ -1,4 +1,4 @@
-//! The commands and their programs. The error of each call is that memory ran out.
+//! The commands and their programs. The error of each call is out of memory.
 ghost use Rattle.mc_model.specs.Server.{IsValid};
 ghost use Rattle.sei_stmt.specs.Programs.{flatten};
 ghost use Rattle.sei_stmt.specs.Written.{prog_of};
@@ -12,8 +12,8 @@ use std::alloc::Global;
 use tab_find::registers::*;
 use tab_find::statements::{input, set};
 use tab_find::{
-    answer_text, find, if_wanted, inputs, keep_item, load_item, remove_item, say, show_run,
-    show_value,
+    answer_text, clear_items, expiry, find, if_wanted, inputs, keep_item, load_item, put_expiry,
+    remove_item, say, show_run, show_value,
 };
 
 /// The commands of this crate.
@@ -21,21 +21,40 @@ use tab_find::{
 pub enum Part {
     /// Shows the item of a key.
     Get,
+    /// Shows it with its cas unique.
+    Gets,
+    /// Shows it, and gives it another expiry.
+    Gat,
+    /// Shows it with its cas unique, and gives it another expiry.
+    Gats,
+    /// Gives the item of a key another expiry.
+    Touch,
     /// Removes the item of a key.
     Delete,
+    /// Removes all items of a bucket.
+    Flush,
     /// Answers with a fixed text.
     Fixed,
 }
 
-/// The output words of an item before its key.
-fn show_fields(alloc: Global) -> Result<Program, Memory>
-    ensures { IfOk result (λ p. prog_of p ≡ programs.show_fields) }
+/// Gives the item that was found the expiry that the call asks for.
+fn expire(alloc: Global) -> Result<Program, Memory>
+    ensures { IfOk result (λ p. prog_of p ≡ programs.expire) }
 {
+    let put = put_expiry(alloc)?;
+    expiry(alloc)?.then(alloc, put)
+}
+
+/// The output words of an item before its key, and the mark whether its cas unique is shown.
+fn show_fields(alloc: Global, shown: bool) -> Result<Program, Memory>
+    ensures { IfOk result (λ p. prog_of p ≡ programs.show_fields shown) }
+{
+    let mark = if shown { ONE } else { ZERO };
     Program::block(
         alloc,
         &[
             Stmt::Emit { from: ONE },
-            Stmt::Emit { from: ZERO },
+            Stmt::Emit { from: mark },
             Stmt::Emit { from: KEY_LENGTH },
             Stmt::Emit { from: FLAGS },
             Stmt::Emit { from: VALUE_LENGTH },
@@ -44,57 +63,58 @@ fn show_fields(alloc: Global) -> Result<Program, Memory>
     )
 }
 
-/// The output words of the item that was found, without its cas unique.
-fn show_item(alloc: Global) -> Result<Program, Memory>
-    ensures { IfOk result (λ p. prog_of p ≡ programs.show_item) }
+/// The output words of the item that was found.
+fn show_item(alloc: Global, shown: bool) -> Result<Program, Memory>
+    ensures { IfOk result (λ p. prog_of p ≡ programs.show_item shown) }
 {
     let value = show_value(alloc)?;
     let words = show_run(alloc)?.then(alloc, value)?;
-    let shown = show_fields(alloc)?.then(alloc, words)?;
+    let shown = show_fields(alloc, shown)?.then(alloc, words)?;
     load_item(alloc)?.then(alloc, shown)
 }
 
-/// The end, if this is the last key of the request.
-fn show_end(alloc: Global) -> Result<Program, Memory>
-    ensures { IfOk result (λ p. prog_of p ≡ programs.show_end) }
+/// A text, if this is the last call of the request.
+fn say_last(alloc: Global, text: u8) -> Result<Program, Memory>
+    ensures { IfOk result (λ p. prog_of p ≡ programs.say_last text) }
 {
     let mark = Program::block(alloc, &[set(INDEX, inputs::LAST), input(LAST, INDEX)])?;
-    let end = say(alloc, texts::END)?;
+    let said = say(alloc, text)?;
     mark.then(
         alloc,
-        Program::if_eq(alloc, LAST, ONE, end, Program::empty(alloc))?,
+        Program::if_eq(alloc, LAST, ONE, said, Program::empty(alloc))?,
     )
 }
 
-/// Get, at a key that has an item.
-fn get_present(alloc: Global) -> Result<Program, Memory>
-    ensures { IfOk result (λ p. prog_of p ≡ programs.get_present) }
+/// Shows the item of the key, and then changes it.
+fn read_by(alloc: Global, shown: bool, change: Program) -> Result<Program, Memory>
+    ensures { IfOk result (λ p. prog_of p ≡ programs.read_by shown (prog_of change)) }
 {
-    let end = show_end(alloc)?;
-    let shown = show_item(alloc)?.then(alloc, end)?;
-    if_wanted(alloc, shown)?.then(alloc, keep_item(alloc))
-}
-
-/// Get.
-fn get(alloc: Global) -> Result<Program, Memory>
-    ensures { IfOk result (λ p. prog_of p ≡ programs.get_program) }
-{
-    let present = get_present(alloc)?;
-    let end = show_end(alloc)?;
+    let end = say_last(alloc, texts::END)?;
+    let item = show_item(alloc, shown)?.then(alloc, end)?;
+    let present = if_wanted(alloc, item)?.then(alloc, change)?;
+    let end = say_last(alloc, texts::END)?;
     let absent = if_wanted(alloc, end)?;
     let by_key = Program::if_lt(alloc, PLACE, END, present, absent)?;
     find(alloc)?.then(alloc, by_key)
 }
 
-/// Delete.
-fn delete(alloc: Global) -> Result<Program, Memory>
-    ensures { IfOk result (λ p. prog_of p ≡ programs.delete_program) }
+/// Answers with a text and changes the item of the key, or says that there is none.
+fn change_by(alloc: Global, text: u8, change: Program) -> Result<Program, Memory>
+    ensures { IfOk result (λ p. prog_of p ≡ programs.change_by text (prog_of change)) }
 {
-    let removed = remove_item(alloc)?;
-    let present = answer_text(alloc, texts::DELETED)?.then(alloc, removed)?;
+    let present = answer_text(alloc, text)?.then(alloc, change)?;
     let absent = answer_text(alloc, texts::NOT_FOUND)?;
     let by_key = Program::if_lt(alloc, PLACE, END, present, absent)?;
     find(alloc)?.then(alloc, by_key)
+}
+
+/// Removes all items of the bucket.
+fn flush(alloc: Global) -> Result<Program, Memory>
+    ensures { IfOk result (λ p. prog_of p ≡ programs.flush_program) }
+{
+    let said = say_last(alloc, texts::OKAY)?;
+    let cleared = clear_items(alloc)?;
+    if_wanted(alloc, said)?.then(alloc, cleared)
 }
 
 /// The text of the call.
@@ -113,18 +133,23 @@ fn fixed(alloc: Global) -> Result<Program, Memory>
     if_wanted(alloc, said)
 }
 
-/// The program of a command, from after the moment and the call's marks.
+/// The program of a command, which begins after the moment and the call's marks.
 pub fn program(alloc: Global, which: Part) -> Result<Program, Memory>
     ensures { IfOk result (λ p. prog_of p ≡ programs.part_program which) }
 {
     match which {
-        Part::Get => get(alloc),
-        Part::Delete => delete(alloc),
+        Part::Get => read_by(alloc, false, keep_item(alloc)),
+        Part::Gets => read_by(alloc, true, keep_item(alloc)),
+        Part::Gat => read_by(alloc, false, expire(alloc)?),
+        Part::Gats => read_by(alloc, true, expire(alloc)?),
+        Part::Touch => change_by(alloc, texts::TOUCHED, expire(alloc)?),
+        Part::Delete => change_by(alloc, texts::DELETED, remove_item(alloc)?),
+        Part::Flush => flush(alloc),
         Part::Fixed => fixed(alloc),
     }
 }
 
-/// Its statements.
+/// The statements of a command's program.
 pub fn fragment(alloc: Global, _g: &Geometry, which: Part) -> Result<Fragment, Memory>
     requires { IsValid _g.now }
     ensures { IfOk result (λ f. f ≡ flatten (programs.part_program which)) }

@@ -1,4 +1,5 @@
-//! The tables of the commands that read or remove an item, and of the fixed texts. Today these are get, delete and the texts.
+//! The tables of the commands that read, touch or remove items, and of the fixed texts: get, gets, gat,
+//! gats, touch, delete, flush_all and the texts.
 #![tactic(auto)]
 
 mod commands;

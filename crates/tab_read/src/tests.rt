@@ -9,10 +9,21 @@ const SMALLEST: Geometry = Geometry {
     value_words: 3,
 };
 
+/// How many statements each part has.
+const STATEMENTS: [(Part, usize); 8] = [
+    (Part::Get, 87),
+    (Part::Gets, 87),
+    (Part::Gat, 104),
+    (Part::Gats, 104),
+    (Part::Touch, 66),
+    (Part::Delete, 50),
+    (Part::Flush, 13),
+    (Part::Fixed, 6),
+];
+
 #[test]
 fn each_part_is_made(rt: HostRuntime) -> Result<(), Fail> {
-    let lengths = [(Part::Get, 87), (Part::Delete, 50), (Part::Fixed, 6)];
-    for (part, length) in lengths {
+    for (part, length) in STATEMENTS {
         let made = fragment(rt.alloc(), &SMALLEST, part)?;
         assert_eq!(rt; made.stmts.len(), length);
     }

@@ -1,4 +1,4 @@
-//! The tables of the commands that store the item which they spell. Today this is set.
+//! The tables of the commands that store the item which they spell: set, add, replace and cas.
 #![tactic(auto)]
 
 mod commands;

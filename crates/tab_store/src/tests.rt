@@ -9,9 +9,19 @@ const SMALLEST: Geometry = Geometry {
     value_words: 3,
 };
 
+/// How many statements each part has.
+const STATEMENTS: [(Part, usize); 4] = [
+    (Part::Set, 141),
+    (Part::Add, 119),
+    (Part::Replace, 92),
+    (Part::Cas, 104),
+];
+
 #[test]
-fn set_is_made(rt: HostRuntime) -> Result<(), Fail> {
-    let made = fragment(rt.alloc(), &SMALLEST, Part::Set)?;
-    assert_eq!(rt; made.stmts.len(), 141);
+fn parts_are_made(rt: HostRuntime) -> Result<(), Fail> {
+    for (part, count) in STATEMENTS {
+        let made = fragment(rt.alloc(), &SMALLEST, part)?;
+        assert_eq!(rt; made.stmts.len(), count);
+    }
     Ok(())
 }

@@ -13,7 +13,7 @@ use sei_stmt::{Program, Stmt};
 use sei_words::Words;
 use tab_find::registers::{NUMBER, VERB};
 
-/// Makes the statement at the index, where the clock answers `second`.
+/// Makes the statement at the index, when the clock answers `second`.
 #[tactic(auto, using(crate::proofs::PassLaws::sealed_words_fit, crate::proofs::PassLaws::one_geometry))]
 fn make(
     pass: &mut Pass,
@@ -91,7 +91,8 @@ fn make_all(
     }
 }
 
-/// What a call costs: how many statements a pass of it makes, and at which addresses it changes words.
+/// What a call costs: how many statements a pass of it makes, and at which addresses it changes
+/// words.
 #[derive(Drop)]
 struct Counted {
     /// None if the pass did not halt.
@@ -135,7 +136,8 @@ fn cost(
     })
 }
 
-/// The costs of requests that come one behind the other at an empty bucket, where the clock answers `second`.
+/// The costs of requests that come one after the other at an empty bucket, when the clock answers
+/// `second`.
 fn costs(rt: HostRuntime, slots: u64, second: u64, texts: &[&[u8]]) -> Result<Vec<Counted>, Fail> {
     let geometry = Geometry {
         buckets: 1,
@@ -187,7 +189,8 @@ fn chosen(stmts: &[Stmt], number: u64) -> Option<(u8, u64)> {
     None
 }
 
-/// Each of the 16 numbers comes to its program in eight statements. A jump over the programs behind it makes nine.
+/// Each of the 16 numbers comes to its program in eight statements. A jump over the programs after
+/// it makes nine.
 #[test]
 fn the_choice_costs_nine_statements(rt: HostRuntime) -> Result<(), Fail> {
     let alloc = rt.alloc();
@@ -292,8 +295,9 @@ fn a_slot_that_is_walked_costs_few_statements(rt: HostRuntime) -> Result<(), Fai
     Ok(())
 }
 
-/// A new item with flags 0 and no expiry: the moment, the counter, and of the slot the mark of use, the hash, the lengths of
-/// the key and of the value, the cas unique, the key and the value. An item that is replaced: the counter, the unique, the value.
+/// A new item with flags 0 and no expiry changes the moment, the counter, and words of its slot. In
+/// the slot these are the mark of use, the hash, both lengths, the cas unique, the key and the
+/// value. An item that is replaced changes the counter, the unique and the value.
 #[test]
 fn a_set_changes_few_words(rt: HostRuntime) -> Result<(), Fail> {
     let made = costs(
