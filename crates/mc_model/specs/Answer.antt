@@ -1,4 +1,4 @@
--- The answer to a call: the bucket afterwards, and the reply.
+-- The answer to a call: the bucket after it, and the reply.
 use Rattle.std.specs.Prelude.{ℕ, List, [], length, if◌then◌else◌}
 use Rattle.mc_model.specs.declared.call.Room.{Room}
 use Rattle.mc_model.specs.declared.outcome.Seen.{Seen}
@@ -30,7 +30,7 @@ bucket_after key d b = record { items = items_after key d b.items; moment = b.mo
 abbrev pub outcome_in : Room → Bucket → Call → Outcome
 outcome_in room b c = outcome_of (seen_in room b) c c.verb (lookup c.key b.items)
 
--- what has expired leaves before the command and after it
+-- expired items are removed before the command and after it
 unfoldable pub answer : Room → Bucket → ℕ → Call → Bucket × List ℕ
 answer room b now c =
     let a = arrived now b in

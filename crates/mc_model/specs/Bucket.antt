@@ -1,19 +1,19 @@
--- Items and buckets. What an item holds is what protocol.txt of memcached keeps at a key.
+-- Items and buckets, with what protocol.txt of memcached keeps at a key.
 use Rattle.std.specs.Prelude.{◌≡◌, ℕ, Bool, ◌||◌, ◌==◌, nat_lt, max, List, [], ◌∷◌, filter, Option, Some, None, if◌then◌else◌}
 use Rattle.std.specs.Str.{bytes_eq}
 
--- the expiry is the second since the start of 1970 from which the item is gone, or 0 for never
+-- expiry: the second since the start of 1970 from which the item is gone, or 0 for never
 pub record Item : Type 0 where
   pub flags : ℕ
   pub expiry : ℕ
   pub unique : ℕ
   pub value : List ℕ
 
--- a map from keys to items: each key stands once
+-- a map from keys to items: each key is there once
 abbrev pub Entries : Type 0
 Entries = List (List ℕ × Item)
 
--- the moment is the latest second that the bucket saw, the counter the last cas unique that it gave
+-- moment: the latest second that the bucket saw. counter: the last cas unique that it gave
 pub record Bucket : Type 0 where
   pub items : Entries
   pub moment : ℕ
@@ -26,7 +26,7 @@ abbrev pub lookup : List ℕ → Entries → Option Item
 lookup key [] = None
 lookup key (e ∷ es) = if bytes_eq key e.0 then Some e.1 else lookup key es
 
--- the item takes the key's place, or stands behind all
+-- the item replaces the one at the key, or is added at the end
 abbrev pub put : List ℕ → Item → Entries → Entries
 put key x [] = (key, x) ∷ []
 put key x (e ∷ es) = if bytes_eq key e.0 then (key, x) ∷ es else e ∷ put key x es
@@ -41,20 +41,20 @@ is_live moment x = x.expiry == 0 || nat_lt moment x.expiry
 abbrev pub live_entries : ℕ → Entries → Entries
 live_entries moment es = filter (λ e. is_live moment e.1) es
 
--- what has expired leaves
+-- expired items are removed
 abbrev pub purged : Bucket → Bucket
 purged b = record b { items = live_entries b.moment b.items }
 
--- the moment never goes back, and is never 0, which would be no expiry
+-- the moment never goes back. It is never 0, since an expiry of 0 is none
 abbrev pub arrived : ℕ → Bucket → Bucket
 arrived now b = purged (record b { moment = max 1 (max b.moment now) })
 
--- each key stands once
+-- each key is there once
 abbrev pub IsMap : Entries → Type 0
 IsMap [] = Unit {0}
 IsMap (e ∷ es) = (lookup e.0 es ≡ None) × IsMap es
 
--- what holds of each bucket that calls leave
+-- what holds of each bucket after any calls
 pub record IsBucket (b : Bucket) : Type 0 where
   pub map : IsMap b.items
 

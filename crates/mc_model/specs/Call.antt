@@ -23,7 +23,8 @@ verb_number Decr = 13
 verb_number Flush = 14
 verb_number Fixed = 15
 
--- fields that its command has not are 0, false or empty; `last` and `noreply` are its marks, `text` is the number of a fixed text
+-- a field that the command does not have is 0, false or empty. `last` and `noreply` are its marks, `text` is the number
+-- of a fixed text
 pub record Call : Type 0 where
   pub verb : Verb
   pub key : List ℕ
@@ -41,7 +42,7 @@ pub record Call : Type 0 where
 abbrev pub blank : Verb → Call
 blank verb = record { verb = verb; key = []; flags = 0; negative = false; exptime = 0; unique = 0; value = 0; block = []; last = true; noreply = false; text = 0 }
 
--- a call and the bucket that it is for
+-- a call, and the bucket that it is for
 pub record Placed : Type 0 where
   pub bucket : ℕ
   pub call : Call
@@ -50,12 +51,12 @@ pub record Placed : Type 0 where
 abbrev pub bucket_of_key : ℕ → List ℕ → ℕ
 bucket_of_key buckets key = fnv64 key % buckets
 
--- the bucket of a command: that of its key, any for a call on one bucket, the first one for a text
+-- the bucket of a command: that of its key, any bucket for a call on one bucket, the first one for a text
 abbrev pub IsBucketOf : ℕ → Verb → List ℕ → ℕ → Type 0
 IsBucketOf buckets Flush key b = b < buckets
 IsBucketOf buckets Fixed key b = b ≡ 0
 IsBucketOf buckets verb key b = b ≡ bucket_of_key buckets key
 
--- a call stands at its own bucket, of so many
+-- a call is at its own bucket, one of n
 abbrev pub IsPlaced : ℕ → Placed → Type 0
 IsPlaced buckets p = IsBucketOf buckets p.call.verb p.call.key p.bucket

@@ -1,4 +1,4 @@
--- What a call finds at a key, what it leaves there, and what a reader is shown.
+-- What a call finds at a key, what is there after it, and what a reader is shown.
 use Rattle.std.specs.Prelude.{◌≡◌, ◌≢◌, ◌⊎◌, ℕ, ◌<◌, Bool, false, List, [], ◌∷◌, ◌++◌, ⊤, Option, All, codes}
 use Rattle.mc_model.specs.declared.call.Room.{Room}
 use Rattle.mc_model.specs.declared.call.Verb.{Verb}
@@ -78,7 +78,7 @@ pub record LaterGet : Type 0 where
 abbrev pub bucket_then : LaterGet → Bucket
 bucket_then s = left_by_all s.room (left_by s.room s.bucket s.now s.call) s.others
 
--- the block of the call was stored, the others leave its key, and the `get` reads that key before it expires
+-- the block of the call was stored, the others do not change its key, and the `get` reads that key before it expires
 pub record GetsStored (s : LaterGet) : Type 0 where
   pub bucket : IsBucket s.bucket
   pub stored : HasStored s.room s.bucket s.now s.call

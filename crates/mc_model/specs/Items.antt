@@ -16,7 +16,7 @@ expiry_of moment negative exptime =
     else if nat_le exptime thirty_days then min (moment + exptime) (2 ^ 64 - 1)
     else exptime
 
--- the cas unique that is drawn: one more than the counter
+-- the next cas unique: one more than the counter
 abbrev pub next_unique : Seen → ℕ
 next_unique s = (s.counter + 1) % 2 ^ 64
 

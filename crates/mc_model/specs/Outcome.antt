@@ -1,4 +1,4 @@
--- What a call does at its key: one row for each command, where the key has no item and where it has one.
+-- What a call does at its key: one row for each command, if the key has no item and if it has one.
 use Rattle.std.specs.Prelude.{ℕ, ◌+◌, ◌-◌, ◌%◌, ◌^◌, Bool, true, false, ◌==◌, nat_lt, nat_le, List, [], ◌++◌, length, Option, Some, None, codes, if◌then◌else◌}
 use Rattle.std.specs.Option.{option_map}
 use Rattle.std.specs.Fmt.{decimal}
@@ -54,7 +54,7 @@ touching s c x = record { change = Put (item_with_expiry s c x); reply = line (c
 abbrev pub removing : Outcome
 removing = record { change = Remove; reply = line (codes "DELETED") }
 
--- only the request's last bucket answers
+-- only the call at the request's last bucket has a reply
 abbrev pub clearing : Call → Outcome
 clearing c = record { change = Clear; reply = if c.last then line (codes "OK") else [] }
 

@@ -7,11 +7,11 @@ use Rattle.std.specs.Int.{w64, to_be_bytes}
 abbrev pub AreBytes : List ℕ → Type 0
 AreBytes xs = All (λ b. b < 256) xs
 
--- how many words so many bytes take
+-- how many words n bytes take
 abbrev pub words_for : ℕ → ℕ
 words_for n = (n + 7) / 8
 
--- word j. Behind the last byte `slice_index` is 0.
+-- word j. After the last byte `slice_index` is 0.
 abbrev pub word_of : List ℕ → ℕ → ℕ
 word_of xs j =
     let a = 8 * j in

@@ -1,4 +1,4 @@
--- A server: a list of buckets, each with room for so many items and values of so many bytes.
+-- A server: a list of buckets, and the room of each: limits on its items and on the bytes of a value.
 use Rattle.std.specs.Prelude.{ℕ, ◌*◌, ◌≤◌, List, replicate, slice_index_or, slice_set}
 use Rattle.mc_model.specs.declared.geometry.Geometry.{Geometry}
 use Rattle.mc_model.specs.declared.call.Room.{Room}
@@ -29,7 +29,7 @@ empty_server g = record { room = room_of g; buckets = replicate g.buckets empty_
 abbrev pub bucket_at : Server → ℕ → Bucket
 bucket_at s b = slice_index_or s.buckets b empty_bucket
 
--- the call's bucket answers, and the others stay
+-- the call's bucket answers, and the others do not change
 abbrev pub server_answer : Server → ℕ → Placed → Server × List ℕ
 server_answer s now p =
     let a = answer s.room (bucket_at s p.bucket) now p.call in

@@ -1,4 +1,4 @@
--- What the places of a call stand for.
+-- What the places of a call mean in the text that it was read from.
 use Rattle.std.specs.Prelude.{ℕ, ◌<◌, ◌≤◌, List, length, slice_range}
 use Rattle.mc_model.specs.declared.call.CallSpan.{CallSpan}
 use Rattle.mc_model.specs.Call.{Call, Placed}
@@ -23,7 +23,7 @@ call_with key block c = record {
 abbrev pub call_of : List ℕ → CallSpan → Call
 call_of input c = call_with (slice_range input c.key.from c.key.to) (slice_range input c.block.from c.block.to) c
 
--- its places are of the text, and its text is one of the table
+-- its places are within the text, and the number of its text is one of the table
 pub record IsSpanOf (input : List ℕ) (c : CallSpan) : Type 0 where
   pub key_order : c.key.from ≤ c.key.to
   pub key_end : c.key.to ≤ length input

@@ -75,7 +75,7 @@ impl StoredBucket {
         }
     }
 
-    /// Answers a call, where `now` is in seconds since the start of 1970.
+    /// Answers a call. `now` is in seconds since the start of 1970.
     #[tactic(auto, unfolding(crate::specs::Answer::answer))]
     pub fn answer(
         &mut self,
@@ -105,7 +105,7 @@ impl StoredBucket {
     }
 }
 
-/// So many empty buckets.
+/// `count` empty buckets.
 pub fn empty_buckets(alloc: Global, count: u64) -> Result<Vec<StoredBucket>, Memory>
     ensures { IfOk result (λ buckets. buckets.items ≡ replicate count empty_bucket) }
 {

@@ -1,4 +1,4 @@
-//! Calls as places of the text that they were read from, and what they stand for.
+//! Calls, whose keys and blocks are places in the text that they were read from.
 
 use std::marker::Model;
 
@@ -60,14 +60,14 @@ pub struct CallSpan {
     pub text: u8,
 }
 
-/// How many items a bucket has at most, and how many bytes a value has at most.
+/// The most items of a bucket, and the most bytes of a value.
 #[derive(Clone, Copy, Debug, PartialEq, Eq)]
 pub struct Room {
     pub slots: u64,
     pub value_bytes: u64,
 }
 
-/// A call beside its key and its block.
+/// A call with its key and its block.
 #[derive(Drop)]
 pub struct KeyedCall<'a> {
     pub fields: &'a CallSpan,

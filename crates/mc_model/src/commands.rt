@@ -167,7 +167,7 @@ fn reading_and_touching(
     })
 }
 
-/// The reply where the key of a reading command has no item.
+/// The reply of a reading command if the key has no item.
 fn missing(alloc: Global, last: bool) -> Result<Outcome, Memory>
     ensures { IfOk result (λ outcome. outcome ≡ reply_only (end_text last)) }
 {
@@ -216,7 +216,7 @@ fn clearing(alloc: Global, call: &KeyedCall) -> Result<Outcome, Memory>
     })
 }
 
-/// What a call does where its key has no item.
+/// What a call does if its key has no item.
 pub fn outcome_without_item(alloc: Global, seen: &Seen, call: &KeyedCall) -> Result<Outcome, Memory>
     requires { call.now.text < text_count }
     ensures { IfOk result (λ outcome. outcome ≡ outcome_of seen.now call.now call.now.verb None) }
@@ -233,7 +233,7 @@ pub fn outcome_without_item(alloc: Global, seen: &Seen, call: &KeyedCall) -> Res
     }
 }
 
-/// What a call does where its key has an item.
+/// What a call does if its key has an item.
 pub fn outcome_with_item(
     alloc: Global,
     seen: &Seen,

@@ -1,4 +1,4 @@
-//! The entries of a bucket: a list in which each key stands once.
+//! The entries of a bucket: a list in which each key is there once.
 
 ghost use Rattle.std.specs.Prelude.{◌≡◌, ◌<◌, ◌≤◌, IfSome, length, position, vec_len, vec_capacity};
 ghost use Rattle.std.specs.Option.{option_copied};
@@ -9,7 +9,7 @@ ghost use Rattle.mc_model.specs.Answer.{items_after};
 use crate::item::{StoredEntry, StoredItem};
 use crate::outcome::Change;
 
-/// The item at the key, of those that live at the moment.
+/// The item at the key, if it is there and live at the moment.
 pub fn find_live<'a>(entries: &'a [StoredEntry], moment: u64, key: &[u8]) -> Option<&'a StoredItem>
     ensures { option_copied result ≡ lookup key.now (live_entries moment entries.now) }
 {
@@ -30,7 +30,7 @@ pub fn count_live(entries: &[StoredEntry], moment: u64) -> usize
         .count()
 }
 
-/// What has expired leaves.
+/// Removes the items that have expired.
 pub fn purge(entries: &mut Vec<StoredEntry>, moment: u64)
     ensures items { entries.new.items ≡ live_entries moment entries.old.items }
     ensures room { vec_len entries.new ≤ vec_len entries.old }
@@ -64,7 +64,7 @@ fn take_out(entries: &mut Vec<StoredEntry>, key: &[u8])
     }
 }
 
-/// Does the change at the key.
+/// Makes the change at the key.
 pub fn apply(entries: &mut Vec<StoredEntry>, key: Vec<u8>, change: Change)
     requires { vec_len entries.old < vec_capacity entries.old }
     ensures { entries.new.items ≡ items_after key.items change entries.old.items }

@@ -4,7 +4,8 @@ ghost use Rattle.std.specs.Prelude.{◌≡◌, ◌↔◌, IsTrue};
 
 use crate::call::Room;
 
-/// How large a server is: buckets, slots (items of a bucket) and value words (of eight bytes) of an item.
+/// The size of a server: its buckets, the slots (items) of each, and the value words (of eight
+/// bytes) of an item.
 #[derive(Clone, Copy, Debug, PartialEq, Eq)]
 pub struct Geometry {
     pub buckets: u64,
@@ -24,7 +25,7 @@ impl Geometry {
             && (3..=1024).contains(&self.value_words)
     }
 
-    /// What each bucket has room for.
+    /// The room of each bucket.
     pub fn room(&self) -> Room
         requires { IsValid self.now }
         ensures { result ≡ room_of self.now }

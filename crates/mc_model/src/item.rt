@@ -1,4 +1,4 @@
-//! Items as a list keeps them, and those that calls make.
+//! Items as a list holds them, and those that calls make.
 
 ghost use Rattle.std.specs.Prelude.{◌≡◌, IfOk};
 ghost use Rattle.mc_model.specs.Items.{expiry_of, next_unique, item_of_call, item_with_value, item_with_expiry};

@@ -1,4 +1,4 @@
-//! Laws of the definitions: functions that do nothing, whose clauses are proved once and for all.
+//! Laws of the definitions, each a clause of a function that does nothing.
 
 ghost use Rattle.std.specs.Prelude.{◌≡◌, ◌≢◌, ◌⊎◌, ℕ, ◌≤◌, Bool, true, false, max, List, [], ◌++◌, Some, None, length, codes};
 ghost use Rattle.mc_model.specs.declared.call.Room.{Room};
@@ -13,8 +13,9 @@ ghost use Rattle.mc_model.specs.Found.{left_by, reply_to, moment_in, found, HasS
 ghost use Rattle.mc_model.specs.Server.{IsValid, room_of, Server, bucket_at, server_answer};
 ghost use Rattle.mc_model.specs.Within.{IsWithin};
 
-/// A bucket is a finite map of at most so many items, each value of at most so many bytes: the
-/// empty bucket is within every room, and an answer keeps a bucket within its room.
+/// A bucket is a finite map within its room: the number of its items is limited, and so are the
+/// bytes of each value. The empty bucket is within every room, and an answer keeps a bucket within
+/// its room.
 pub fn buckets_stay_within_their_room()
     ensures empty { (room : Room) → IsWithin room empty_bucket }
     ensures answer { (g : Geometry) (b : Bucket) (now : ℕ) (c : Call) →
@@ -22,8 +23,8 @@ pub fn buckets_stay_within_their_room()
         IsWithin (room_of g) (answer (room_of g) b now c).0 }
 {}
 
-/// After a block was stored, its key has the item that the call spells, until it expires. As long
-/// as other calls leave the key, a `get` shows the flags and the value of that call.
+/// After a block was stored, its key has the item that the call spells, until it expires. While
+/// other calls do not change that key, a `get` shows the flags and the value of that call.
 pub fn get_shows_what_was_stored()
     ensures item { (room : Room) (b : Bucket) (now : ℕ) (c : Call) → IsBucket b → HasStored room b now c
         → lookup c.key (left_by room b now c).items ≡ if_live (moment_in now b) (Some (own_item room b now c)) }
@@ -32,7 +33,7 @@ pub fn get_shows_what_was_stored()
 {}
 
 /// A `cas` stores exactly if it names the unique of the item, which is the one that `gets` shows.
-/// If it names another one, nothing leaves but what has expired.
+/// If it names another one, only expired items are removed.
 pub fn cas_compares_the_unique()
     ensures gets { (room : Room) (b : Bucket) (now : ℕ) (c : Call) (x : Item) → Asks Gets c
         → found now b c.key ≡ Some x → reply_to room b now c ≡ value_text true c.key x ++ end_text c.last }
@@ -50,8 +51,9 @@ pub fn noreply_changes_the_reply_alone()
         → answer room b now (record c { noreply = true }) ≡ (left_by room b now (record c { noreply = false }), []) }
 {}
 
-/// What a call leaves as it is: what another key has, but for expiry; the bucket, if it only reads;
-/// and all other buckets. Each call moves its bucket's moment on, and never back.
+/// What a call does not change: what another key has, except for expiry; the bucket, if the call
+/// only reads; and all other buckets. The bucket's moment becomes the largest of 1, the old moment
+/// and the time.
 pub fn calls_leave_the_rest()
     ensures key { (room : Room) (b : Bucket) (now : ℕ) (c : Call) (key : List ℕ) → IsBucket b → LeavesKey key c
         → lookup key (left_by room b now c).items ≡ if_live (moment_in now b) (lookup key b.items) }

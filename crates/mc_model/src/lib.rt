@@ -1,4 +1,4 @@
-//! Calls, items, and the plain server of one thread that answers them; and bytes packed into words.
+//! Calls, items, the plain server of one thread that answers calls, and bytes packed into words.
 #![tactic(auto)]
 
 mod bucket;

@@ -3,8 +3,8 @@
 ghost use Rattle.std.specs.Prelude.{◌≡◌, ℕ, ◌^◌, ◌-◌, ◌≤◌, IfSome};
 ghost use Rattle.mc_model.specs.Numbers.{number_upto};
 
-/// The number that the bytes spell, if they are one or more decimal digits, with no sign, of a
-/// number of at most `max`. Leading zeros are read.
+/// The number that the bytes spell, if they are one or more decimal digits without a sign, and the
+/// number is at most `max`. Leading zeros are allowed.
 pub fn number_upto(max: u64, bytes: &[u8]) -> Option<u64>
     ensures value { result ≡ number_upto max bytes.now }
     ensures within { IfSome result (λ n. n ≤ max) }

@@ -22,13 +22,13 @@ pub enum Change {
     Keep,
     /// The item at the key becomes this one.
     Put(StoredItem),
-    /// Likewise, and its unique was drawn.
+    /// The same, with a unique that was drawn.
     Draw(StoredItem),
-    /// Likewise, where the key had no item.
+    /// The same, if the key had no item.
     Make(StoredItem),
-    /// The item at the key leaves.
+    /// The item at the key is removed.
     Remove,
-    /// All items leave.
+    /// All items are removed.
     Clear,
 }
 

@@ -6,7 +6,7 @@ ghost use Rattle.mc_model.specs.Packed.{words_for, word_of, pack};
 
 use sei_code::WordList;
 
-/// Eight bytes from `8 * j` on as a word, with zero bytes behind the last.
+/// Eight bytes from `8 * j` on as a word, with zero bytes after the last.
 fn word_at(bytes: &[u8], j: usize) -> u64
     requires { j < words_for (length bytes.now) }
     ensures { result ≡ word_of bytes.now j }
@@ -18,9 +18,9 @@ fn word_at(bytes: &[u8], j: usize) -> u64
     u64::from_be_bytes(word)
 }
 
-/// Packs the bytes eight to a word, behind the words that stand there: the first byte is the most
-/// significant, and the last word is filled up with zero bytes. False where there is no room for
-/// all of the words, and then nothing has changed.
+/// Packs the bytes eight to a word, and appends the words to the list. The first byte is the most
+/// significant, and the last word is filled up with zero bytes. False if there is no room for all
+/// of the words; then nothing has changed.
 pub fn pack(bytes: &[u8], into: &mut WordList) -> bool
     ensures answer { result ≡ nat_le (length into.old.items + words_for (length bytes.now)) into.old.room }
     ensures done { OnTrue result (into.new ≡ extended into.old (pack bytes.now)) }

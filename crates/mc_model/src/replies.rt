@@ -1,4 +1,4 @@
-//! Replies that are no fixed text.
+//! Replies that are not fixed texts.
 
 ghost use Rattle.std.specs.Prelude.{◌≡◌, ◌++◌, IfOk, OnOk};
 ghost use Rattle.std.specs.Fmt.{decimal};
@@ -16,7 +16,7 @@ pub fn push_decimal(alloc: Global, out: &mut Vec<u8>, number: u64) -> Result<(),
     Ok(())
 }
 
-/// The end behind the reply to a request's last key.
+/// Appends what follows the reply to a request's last key.
 pub fn push_end(out: &mut Vec<u8>, last: bool) -> Result<(), Memory>
     ensures { OnOk result (out.new.items ≡ out.old.items ++ end_text last) }
 {

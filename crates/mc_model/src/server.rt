@@ -1,4 +1,4 @@
-//! The plain server.
+//! The plain server, which keeps its items in lists.
 
 ghost use Rattle.std.specs.Prelude.{◌≡◌, ◌<◌, IfOk, OnErr, length};
 ghost use Rattle.mc_model.specs.Views.{placed_of, IsSpanOf};
@@ -11,7 +11,7 @@ use sei_code::Memory;
 use std::alloc::Global;
 use std::marker::Model;
 
-/// A memcached of one thread: it keeps its items in lists, and answers a call as the protocol says.
+/// A memcached of one thread. It keeps its items in lists, and answers a call as the protocol says.
 #[derive(Drop)]
 pub struct PlainServer {
     alloc: Global,
@@ -40,8 +40,8 @@ impl PlainServer {
         })
     }
 
-    /// Answers a call, whose key and block are spans of `input`, at its bucket; `now` is in seconds
-    /// since the start of 1970. After want of memory nothing has changed.
+    /// Answers a call at its bucket. The call's key and block are spans of `input`, and `now` is in
+    /// seconds since the start of 1970. If it is out of memory, nothing has changed.
     pub fn answer(&mut self, now: u64, input: &[u8], call: &CallSpan) -> Result<Vec<u8>, Memory>
         requires span { IsSpanOf input.now call.now }
         requires bucket { call.now.bucket < length self.old.buckets }

@@ -1,4 +1,4 @@
-//! What no clause says: that calls succeed if there is memory; and the bytes of one `get`, `set`, `get`.
+//! No clause says that calls succeed if there is memory. The bytes of one `get`, `set`, `get`.
 
 use super::*;
 use sei_code::WordList;

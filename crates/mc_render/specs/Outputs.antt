@@ -26,7 +26,7 @@ IsKnown (Text number) = number < text_count
 IsKnown (Value s) = Unit {0}
 IsKnown (Number n) = Unit {0}
 
--- the first n bytes that are packed into the words, and the words behind them
+-- the first n bytes that are packed into the words, and the words after them
 abbrev pub first_bytes : ℕ → List ℕ → Option (List ℕ × List ℕ)
 first_bytes n ws = if nat_le (words_for n) (length ws) then Some (unpacked n ws, drop (words_for n) ws) else None
 
@@ -47,7 +47,7 @@ abbrev pub first_number : List ℕ → Option (Output × List ℕ)
 first_number (n ∷ ws) = Some (Number n, ws)
 first_number [] = None
 
--- the first word of an output says of which kind it is
+-- the first word of an output is the number of its kind
 abbrev pub text_kind : ℕ
 text_kind = 0
 

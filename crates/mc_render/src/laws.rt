@@ -1,4 +1,4 @@
-//! Laws of the definitions: a function that does nothing, whose clauses are proved once and for all.
+//! Laws of the definitions, each a clause of a function that does nothing.
 
 ghost use Rattle.std.specs.Prelude.{◌≡◌, ℕ, ◌<◌, ◌==◌, List, [], ◌∷◌, ◌++◌, Some};
 ghost use Rattle.std.specs.Option.{option_map};
@@ -9,7 +9,7 @@ ghost use Rattle.mc_model.specs.Texts.{text_count, line, text_line};
 ghost use Rattle.mc_render.specs.Outputs.{text_kind, number_kind, value_words, CanShow};
 ghost use Rattle.mc_render.specs.Rendering.{rendered};
 
-/// What each kind of output renders to, followed by what the words behind it render to.
+/// What each kind of output renders to, followed by what the words after it render to.
 pub fn words_render_in_order()
     ensures none { (limit : ℕ) → rendered limit [] ≡ Some [] }
     ensures text { (limit n : ℕ) (ws : List ℕ) → n < text_count

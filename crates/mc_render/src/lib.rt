@@ -1,5 +1,5 @@
-//! Replies from output words: the words that a handler's table emits are read as outputs, and the
-//! bytes of these go into a buffer.
+//! Replies from output words. The words that a handler's table emits are read as outputs, and their
+//! bytes go into a buffer.
 #![tactic(auto)]
 
 mod laws;

@@ -8,8 +8,8 @@ use crate::put::{NoRoom, put};
 use sei_code::Buffer;
 use std::marker::Model;
 
-/// Bytes packed eight to a word, the first one the most significant. What fills the last word is
-/// not looked at.
+/// Bytes packed eight to a word, the first one the most significant. The rest of the last word is
+/// ignored.
 #[derive(Drop)]
 pub struct Packed<'a> {
     words: &'a [u64],
@@ -38,8 +38,8 @@ impl<'a> Packed<'a> {
     }
 }
 
-/// The first `length` bytes that are packed into the words, and the words behind them, or none
-/// where the words are too few.
+/// The first `length` bytes that are packed into the words, and the words after them. None if there
+/// are too few words.
 #[tactic(auto, using(crate::proofs::PackedLaws::unpacked_front))]
 pub fn first_bytes(words: &[u64], length: usize) -> Option<(Packed<'_>, &[u64])>
     ensures { option_map (λ p. (p.0, p.1.now)) result ≡ first_bytes length words.now }
@@ -58,7 +58,7 @@ pub fn first_bytes(words: &[u64], length: usize) -> Option<(Packed<'_>, &[u64])>
     ))
 }
 
-/// Puts the bytes behind those in the buffer.
+/// Appends the bytes to the buffer.
 pub fn put_packed(into: &mut Buffer, packed: &Packed<'_>) -> Result<(), NoRoom>
     ensures { Puts into.old into.new packed.now result }
 {

@@ -1,4 +1,4 @@
-//! Bytes into a buffer that may be too small for them.
+//! Bytes and numbers appended to a buffer that may be too small for them.
 ghost use Rattle.mc_render.specs.Puts.{Puts};
 ghost use Rattle.std.specs.Fmt.{decimal};
 
@@ -8,7 +8,7 @@ use sei_code::Buffer;
 #[derive(Clone, Copy)]
 pub struct NoRoom;
 
-/// Puts the bytes behind those in the buffer.
+/// Appends the bytes to the buffer.
 pub fn put(into: &mut Buffer, bytes: &[u8]) -> Result<(), NoRoom>
     ensures { Puts into.old into.new bytes.now result }
 {
@@ -20,7 +20,7 @@ pub fn put(into: &mut Buffer, bytes: &[u8]) -> Result<(), NoRoom>
     Ok(())
 }
 
-/// Puts the decimal digits of the number behind the bytes in the buffer.
+/// Appends the decimal digits of the number to the buffer.
 pub fn put_decimal(into: &mut Buffer, number: u64) -> Result<(), NoRoom>
     ensures { Puts into.old into.new (decimal number) result }
 {

@@ -75,8 +75,8 @@ fn first_number(words: &[u64]) -> Option<(Output<'_>, &[u64])>
     }
 }
 
-/// The output that the words begin with, and the words behind it, or none where they begin with no
-/// output. Values may have `value_bytes` bytes.
+/// The output that the words begin with, and the words after it. None if they begin with no output.
+/// A value may have `value_bytes` bytes.
 pub fn first_output(words: &[u64], value_bytes: u64) -> Option<(Output<'_>, &[u64])>
     ensures value { option_map (λ p. (p.0, p.1.now)) result ≡ first_output value_bytes words.now }
     ensures known { IfSome result (λ p. IsKnown p.0) }

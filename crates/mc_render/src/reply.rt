@@ -25,14 +25,17 @@ fn are_outputs(words: &[u64], value_bytes: u64) -> bool
 
 /// Fills the buffer, from its beginning, with the bytes that the output words stand for.
 ///
-/// The words are a list of outputs. `0, number` is the line of a fixed text. `1, with cas (0 or 1),
-/// key length, flags, value length, cas unique`, the words of the key and the words of the value
-/// show an item; bytes are packed eight to a word, the first one the most significant. `2, number`
-/// is a number on its line, in decimal digits.
+/// The words are a list of outputs:
 ///
-/// Bad where the words are no such list to their end: also where a text number is not in the table,
-/// a key has 0 bytes or more than 250, or a value has more than `value_bytes`. Full where they are
-/// one, and the buffer has less room than there are bytes. After both it is empty.
+/// - `0, number`: the line of a fixed text.
+/// - `1, with cas (0 or 1), key length, flags, value length, cas unique`, then the words of the key
+///   and the words of the value: an item. Bytes are packed eight to a word, the first one the most
+///   significant.
+/// - `2, number`: a number on its line, in decimal digits.
+///
+/// Bad if the words are no such list to their end. So it is if a text number is not in the table, a
+/// key has 0 bytes or more than 250, or a value has more than `value_bytes`. Full if they are one,
+/// and the buffer has less room than there are bytes. After both the buffer is empty.
 #[tactic(auto, using(crate::proofs::RenderedLaws::shorter))]
 pub fn render(words: &[u64], value_bytes: u64, into: &mut Buffer) -> Rendered
     ensures answer { result ≡ answer_of into.old.room (rendered value_bytes words.now) }

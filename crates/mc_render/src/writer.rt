@@ -19,7 +19,7 @@ fn put_field(into: &mut Buffer, number: u64) -> Result<(), NoRoom>
     put_decimal(into, number)
 }
 
-/// The line above a value, without its end.
+/// The line before a value, without its end.
 fn put_head(into: &mut Buffer, shown: &ShownItem<'_>) -> Result<(), NoRoom>
     ensures { Puts into.old into.new (value_head shown.now) result }
 {
@@ -49,7 +49,7 @@ fn put_number(into: &mut Buffer, number: u64) -> Result<(), NoRoom>
     put(into, b"\r\n")
 }
 
-/// Puts the bytes of an output behind those in the buffer.
+/// Appends the bytes of an output to the buffer.
 pub fn put_output(into: &mut Buffer, output: &Output<'_>) -> Result<(), NoRoom>
     requires { IsKnown output.now }
     ensures { Puts into.old into.new (output_text output.now) result }

@@ -16,7 +16,7 @@ pub record Row : Type 0 where
 abbrev pub row : List ℕ → Form → Verb → Row
 row word form verb = record { word = word; command = record { form = form; verb = verb } }
 
--- a command is one row. Rows with keys stand in the order of their commands' numbers
+-- a command is one row. Rows with keys are in the order of their commands' numbers
 abbrev pub commands : List Row
 commands =
     row (codes "set") Storage Set
@@ -35,7 +35,7 @@ command_in w (r ∷ rows) = if bytes_eq w r.word then Some r.command else comman
 unfoldable pub command_of : List ℕ → Option Command
 command_of w = command_in w commands
 
--- lines of this form have keys, and a call of their row's command at each. Other lines have no call but a text
+-- lines of this form have keys, and a call of their row's command at each. The only call of any other line is a text
 abbrev pub has_keys : Form → Bool
 has_keys Storage = true
 has_keys Retrieval = true
@@ -53,11 +53,11 @@ key_verbs (r ∷ rows) = if has_keys r.command.form then r.command.verb ∷ key_
 abbrev pub read_verbs : List Verb
 read_verbs = key_verbs commands ++ Fixed ∷ []
 
--- and their numbers, in the same order
+-- their numbers, in the same order
 abbrev pub read_numbers : List ℕ
 read_numbers = map verb_number read_verbs
 
--- it is one of them
+-- the command is one of them
 pub record IsReadVerb (verb : Verb) : Type 0 where
   pub place : ℕ
   pub there : slice_get read_verbs place ≡ Some verb

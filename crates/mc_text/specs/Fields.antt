@@ -17,7 +17,7 @@ is_key w = nat_lt 0 (length w) && nat_le (length w) longest_key && list_all is_k
 abbrev pub keys_in : List (List ℕ) → Option ℕ
 keys_in ws = if list_all is_key ws then Some (length ws) else None
 
--- a `-` before the number 0 makes nothing negative
+-- `-0` is not negative
 abbrev pub signed : Bool → Option ℕ → Option (Bool × ℕ)
 signed negative None = None
 signed negative (Some n) = Some (negative && not (n == 0), n)

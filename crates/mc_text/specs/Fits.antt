@@ -39,7 +39,7 @@ pub record HasBytes (p : Placed) : Type 0 where
   pub key : AreBytes p.call.key
   pub block : AreBytes p.call.block
 
--- a call stands at its own bucket, a key has its form, a block is within the limit, a text has neither
+-- a call is at its own bucket, a key has its form, a block is within the limit, a text has neither
 pub record IsFit (l : Limits) (p : Placed) : Type 0 where
   pub placed : IsPlaced l.buckets p
   pub bucket : p.bucket < l.buckets

@@ -8,7 +8,7 @@ use Rattle.mc_text.specs.Words.{words, without_cr}
 use Rattle.mc_text.specs.Fields.{is_key, exptime_of}
 use Rattle.mc_text.specs.Commands.{commands}
 
--- the words of a line, a CR at its end dropped
+-- the words of a line, without a CR at its end
 abbrev pub words_of : List ℕ → List (List ℕ)
 words_of line = words (without_cr line)
 
@@ -72,7 +72,7 @@ pub record HasNumbers (w : SetWords) (v : SetNumbers) : Type 0 where
   pub exptime : IsExptime w.exptime v.negative v.seconds
   pub bytes : IsSmallNumber w.bytes v.bytes
 
--- one of its fields has not its form
+-- one of its fields does not have its form
 pub data HasBadField (w : SetWords) : Type 0 where
   BadKey : NotKeyWord w.key → HasBadField w
   BadFlags : NotSmallNumber w.flags → HasBadField w

@@ -16,7 +16,7 @@ use Rattle.mc_text.specs.Fields.{is_key, exptime_of, is_noreply, has_words}
 use Rattle.mc_text.specs.Commands.{command_of}
 use Rattle.mc_text.specs.Meaning.{Meaning, Quit, One, Each}
 
--- the request ends with the line, or a block of so many bytes belongs to its call at these keys
+-- the request ends with the line, or its call at these keys has a block of this many bytes
 pub data LineMeaning : Type 0 where
   Ends : (request : Meaning) → LineMeaning
   Wants : (call : Call) (keys : List (List ℕ)) (bytes : ℕ) → LineMeaning
@@ -32,7 +32,7 @@ refused text = Ends (One (fixed text false) false)
 abbrev pub having : Bool → ℕ → LineMeaning → LineMeaning
 having good text meaning = if good then meaning else refused text
 
--- a field, or a refusal where it has not its form
+-- a field, or a refusal if it does not have its form
 abbrev pub field : {A : Type 0} → ℕ → Option A → (A → LineMeaning) → LineMeaning
 field text None f = refused text
 field text (Some x) f = f x
@@ -41,7 +41,7 @@ field text (Some x) f = f x
 abbrev pub some_words : List (List ℕ) → ℕ → ℕ → List (List ℕ)
 some_words ws first count = take count (drop first ws)
 
--- a block that nobody could keep is not read
+-- a block longer than `longest_block` is not read
 abbrev pub block_for : Call → List (List ℕ) → ℕ → LineMeaning
 block_for c keys bytes = if nat_le bytes longest_block then Wants c keys bytes else Ends (One (fixed object_too_large_text false) true)
 

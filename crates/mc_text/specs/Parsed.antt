@@ -1,4 +1,4 @@
--- What a line that the code has parsed stands for.
+-- The meaning of a line that the code has parsed.
 use Rattle.std.specs.Prelude.{◌≡◌, ℕ, ◌+◌, ◌≤◌, ◌<◌, length, true, false, List, [], ⊤}
 use Rattle.mc_model.specs.declared.call.Verb.{Verb}
 use Rattle.mc_model.specs.declared.call.Verb.TheVariants as verbs

@@ -38,7 +38,7 @@ key_calls_at bytes r = key_calls (buckets_of r) (shared_call bytes r) (keys_at b
 abbrev pub calls_at : List ℕ → Request → List Placed
 calls_at bytes r = calls_of (buckets_of r) (meaning_at bytes r)
 
--- its places are of these bytes
+-- its places are within these bytes
 pub record IsOf (bytes : List ℕ) (r : Request) : Type 0 where
   pub some_buckets : 0 < r.buckets
   pub line : r.line ≤ length bytes
@@ -58,7 +58,7 @@ pub record IsReading (l : Limits) (bytes : List ℕ) (r : Request) : Type 0 wher
 abbrev pub length_of : Request → ℕ
 length_of r = r.length
 
--- its places are among its own bytes
+-- its places are within its own bytes
 pub record StandsInside (r : Request) : Type 0 where
   pub line : r.line ≤ r.length
   pub block : r.block.to ≤ r.length

@@ -1,4 +1,4 @@
--- What stands at the front of some bytes.
+-- What the front of some bytes is: a whole request, or less.
 use Rattle.std.specs.Prelude.{◌≡◌, ℕ, List}
 use Rattle.mc_text.specs.declared.limits.Limits.{Limits}
 use Rattle.mc_text.specs.declared.reader.ReadRequest.{ReadRequest}

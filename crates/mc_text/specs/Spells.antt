@@ -23,7 +23,7 @@ pub record IsLine (line : List ℕ) : Type 0 where
   pub short : length line < longest_line
   pub one : lf line ≡ None
 
--- a line by its words, a CR at its end dropped
+-- what a line asks for, by its words, without a CR at its end
 unfoldable pub line_says : List ℕ → LineMeaning
 line_says line = words_say (words (without_cr line))
 
@@ -34,7 +34,7 @@ too_long = One (fixed line_too_long_text false) true
 abbrev pub crlf : List ℕ
 crlf = 13 ∷ 10 ∷ []
 
--- the text that refuses a block, if it is refused: by the two bytes behind it, and then by the limit
+-- the text that refuses a block, if it is refused: by the two bytes after it, and then by the limit
 abbrev pub block_refusal : Limits → List ℕ → List ℕ → Option ℕ
 block_refusal l block ending =
     if bytes_eq ending crlf then (if nat_le (length block) l.value_bytes then None else Some object_too_large_text) else Some bad_data_chunk_text
@@ -43,11 +43,11 @@ abbrev pub settled : Call → List (List ℕ) → List ℕ → Option ℕ → Me
 settled c keys block None = Each (record c { block = block }) keys
 settled c keys block (Some text) = One (fixed text c.noreply) false
 
--- a request with its block and the two bytes behind it
+-- a request with its block and the two bytes after it
 unfoldable pub finished : Limits → Call → List (List ℕ) → List ℕ → List ℕ → Meaning
 finished l c keys block ending = settled c keys block (block_refusal l block ending)
 
--- as many bytes as a line has at most, without LF; a line; a line, a block and two bytes behind it
+-- as many bytes as a line has at most, without LF; a line; a line, a block and two bytes after it
 pub data Spells (l : Limits) (text : List ℕ) (m : Meaning) : Type 0 where
   TooLong : length text ≡ longest_line → lf text ≡ None → m ≡ too_long → Spells l text m
   OneLine : (line : List ℕ) → IsLine line → text ≡ line ++ 10 ∷ [] → line_says line ≡ Ends m → Spells l text m
@@ -59,7 +59,7 @@ pub record Begins (l : Limits) (bytes : List ℕ) (k : ℕ) (m : Meaning) : Type
   pub within : k ≤ length bytes
   pub spelled : Spells l (take k bytes) m
 
--- some bytes behind these make them the spelling of a request
+-- some bytes after these make them the spelling of a request
 pub record Completed (l : Limits) (bytes : List ℕ) : Type 0 where
   pub tail : List ℕ
   pub request : Meaning

@@ -7,11 +7,11 @@ use Rattle.mc_text.specs.Meaning.{Meaning, calls_of, ends_connection}
 use Rattle.mc_text.specs.Spells.{Spells, Begins}
 use Rattle.mc_text.specs.Front.{front}
 
--- no request stands at the front
+-- no request begins the bytes
 abbrev pub NoneBegins : Limits → List ℕ → Type 0
 NoneBegins l bytes = (k : ℕ) (m : Meaning) → Begins l bytes k m → ⊥
 
--- the bytes are texts of these requests, one behind the other, and then rest
+-- the bytes are texts of these requests, one after the other, and then rest
 abbrev pub Takes : Limits → List ℕ → List Meaning → List ℕ → Type 0
 Takes l bytes [] rest = bytes ≡ rest
 Takes l bytes (m ∷ ms) rest = (text : List ℕ) × (more : List ℕ) × Spells l text m × (bytes ≡ text ++ more) × Takes l more ms rest
@@ -33,7 +33,7 @@ split_in l (suc n) bytes = with_front bytes (front l bytes) (λ k. split_in l n 
 unfoldable pub requests : Limits → List ℕ → List Meaning
 requests l bytes = (split_in l (length bytes) bytes).0
 
--- the bytes behind them
+-- the bytes after them
 unfoldable pub rest_of : Limits → List ℕ → List ℕ
 rest_of l bytes = (split_in l (length bytes) bytes).1
 
@@ -47,7 +47,7 @@ abbrev pub StaysOpen : List Meaning → Type 0
 StaysOpen [] = ⊤
 StaysOpen (m ∷ ms) = (ends_connection m ≡ false) × StaysOpen ms
 
--- the requests of a connection that was fed these bytes
+-- the requests of a connection that got these bytes
 abbrev pub own_requests : Limits → List ℕ → List Meaning
 own_requests l bytes = up_to_end (requests l bytes)
 

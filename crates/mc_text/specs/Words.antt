@@ -25,7 +25,7 @@ line_end line = if slice_index line (length line - 1) == 13 then length line - 1
 abbrev pub without_cr : List ℕ → List ℕ
 without_cr line = take (line_end line) line
 
--- the first word at a place or behind it
+-- the first word at a place or after it
 pub record IsNextWord (line : List ℕ) (at : ℕ) (s : Span) : Type 0 where
   pub word : words (drop at line) ≡ slice_range line s.from s.to ∷ words (drop s.to line)
   pub from : at ≤ s.from

@@ -31,7 +31,7 @@ pub struct Command {
     pub verb: Verb,
 }
 
-/// Whether a word is this one.
+/// Whether the word is this name.
 pub fn is(word: &[u8], name: &[u8]) -> bool
     ensures { result ≡ bytes_eq word.now name.now }
 {

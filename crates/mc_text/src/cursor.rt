@@ -1,4 +1,4 @@
-//! The calls of a request, one after another: its line is gone over once.
+//! An iterator over the calls of a request.
 
 ghost use Rattle.std.specs.Prelude.{◌≡◌, ◌+◌, ◌<◌, slice_get, Some, IfSome, IfNone};
 ghost use Rattle.std.specs.Option.{option_map};
@@ -14,7 +14,7 @@ use crate::request::Request;
 use crate::words::{behind_words, next_word};
 use mc_model::CallSpan;
 
-/// A walk through the calls of a request, in their order, that goes over the line once.
+/// An iterator over the calls of a request, in their order. It keeps its position in the line.
 #[derive(Clone, Copy)]
 pub struct Cursor {
     /// Where in the line the next key is looked for.
@@ -24,7 +24,7 @@ pub struct Cursor {
 }
 
 impl Request {
-    /// A walk that stands before the first call.
+    /// An iterator before the first call.
     pub fn cursor(&self, bytes: &[u8]) -> Cursor
         requires { IsOf bytes.now self.now }
         ensures at { IsAt bytes.now self.now result }
@@ -38,7 +38,7 @@ impl Request {
 }
 
 impl Cursor {
-    /// The next call, as `call` gives it, or none behind the last one.
+    /// The next call, as `call` gives it, or none after the last one.
     #[tactic(auto, unfolding(crate::specs::Meaning::calls_of))]
     pub fn next(&mut self, request: &Request, bytes: &[u8]) -> Option<CallSpan>
         requires of { IsOf bytes.now request.now }

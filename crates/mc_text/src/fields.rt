@@ -13,7 +13,7 @@ use mc_model::number_upto;
 /// The greatest number of seconds in an exptime.
 const LARGEST_EXPTIME: u64 = 0x7fff_ffff_ffff_ffff;
 
-/// The bytes of the nth word, none if there is none.
+/// The bytes of the nth word, or none if it is missing.
 pub fn word_bytes(line: &[u8], nth: usize) -> &[u8]
     ensures { result.now ≡ arg (words line.now) nth }
 {
@@ -76,7 +76,7 @@ pub fn has_words(line: &[u8], n: usize) -> bool
     all == n || (all == n + 1 && is_noreply(word_bytes(line, n)))
 }
 
-/// How many words there are at a place or after it, if all of them are keys. Each byte is looked at once.
+/// How many words there are at a place or after it, if all of them are keys.
 #[tactic(auto, using(crate::proofs::KeyLaws::key_steps))]
 pub fn keys_at(line: &[u8], from: usize) -> Option<usize>
     requires { from ≤ length line.now }

@@ -1,4 +1,4 @@
-//! Laws of the grammar, each the clause of a function that does nothing.
+//! Laws of the grammar, each a clause of a function that does nothing.
 
 ghost use Rattle.std.specs.Prelude.{◌≡◌, ◌≢◌, ℕ, ◌<◌, ◌≤◌, Bool, true, false, List, [], ◌∷◌, ◌++◌, ◌⊎◌, All, Some, None, length, codes};
 ghost use Rattle.mc_model.specs.declared.call.Verb.TheVariants.{Get};
@@ -36,8 +36,8 @@ pub fn any_cut()
     ensures own { (l : Limits) (a b : List ℕ) → IsPrefixOf (own_calls l a) (own_calls l (a ++ b)) }
 {}
 
-/// What holds of each call of a request that is spelled. If the request is bytes, so are the key
-/// and the block of each of its calls.
+/// What holds of each call of a spelled request. If the request is bytes, so are the key and the
+/// block of each of its calls.
 pub fn calls_fit()
     ensures fit { (l : Limits) (text : List ℕ) (m : Meaning)
         → 0 < l.buckets → Spells l text m → All (IsFit l) (calls_of l.buckets m) }
@@ -88,7 +88,8 @@ pub fn lines_mean()
     ensures quit { (line : List ℕ) → BeginsWith line (codes "quit") [] → line_says line ≡ Ends Quit }
 {}
 
-/// What a line without end asks for, and a block by the two bytes after it and by its size.
+/// What a line without an end asks for. What a block asks for, by the two bytes after it and by its
+/// size.
 pub fn blocks_mean()
     ensures long_line { (l : Limits) (text : List ℕ)
         → length text ≡ longest_line → lf text ≡ None → Spells l text too_long }

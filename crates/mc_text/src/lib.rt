@@ -1,5 +1,5 @@
 //! Requests as memcached's text protocol spells them: where the first one ends, what it asks for,
-//! and its calls. Nothing here takes memory: a request keeps places of the bytes that it was read
+//! and its calls. Nothing here takes memory: a request holds places in the bytes that it was read
 //! from.
 #![tactic(auto)]
 

@@ -9,8 +9,7 @@ pub const LONGEST_KEY: usize = 250;
 /// The bytes of a block without its CR LF. A larger one is refused before it is read.
 pub const LONGEST_BLOCK: u64 = 1_048_576;
 
-/// What a server offers: how many buckets it has, at least one, and of how many bytes a value is at
-/// most.
+/// What a server offers: the number of its buckets, at least one, and the most bytes of a value.
 #[derive(Clone, Copy, Debug, PartialEq, Eq)]
 pub struct Limits {
     pub buckets: u64,

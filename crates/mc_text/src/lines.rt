@@ -1,4 +1,4 @@
-//! One function for each form of line. Each tests the refusals in their order.
+//! One function for each form of line, which tests the refusals in their order.
 
 ghost use Rattle.std.specs.Prelude.{◌≡◌, ◌<◌, ◌≤◌, ◌^◌, length, []};
 ghost use Rattle.mc_model.specs.Views.{call_with};
@@ -49,7 +49,7 @@ fn refused(line: &[u8], text: u8) -> ParsedLine
     fixed(line, text, false, false)
 }
 
-/// A request at the word behind the command, with a block of so many bytes.
+/// A request at the word after the command, with a block of `bytes` bytes.
 fn block_for(line: &[u8], call: CallSpan, bytes: u64) -> ParsedLine
     requires few { bytes < 2 ^ 32 }
     requires key { 2 ≤ length (words line.now) }
@@ -223,7 +223,7 @@ fn quit(line: &[u8]) -> ParsedLine
     })
 }
 
-/// What a line asks for; its line end, a CR too, is not part of it.
+/// What a line asks for. The line end, a CR too, is not part of `line`.
 #[tactic(auto, unfolding(crate::specs::Lines::words_say))]
 pub fn parse_line(line: &[u8]) -> ParsedLine
     ensures meaning { line_meaning_of (words line.now) result ≡ words_say (words line.now) }

@@ -33,11 +33,11 @@ pub struct Template {
 pub enum ParsedLine {
     /// A request that ends with the line.
     Ends(Template),
-    /// A request whose block of so many bytes, and CR LF, follow.
+    /// A request whose block of this many bytes, and CR LF, follow.
     Wants(Template, usize),
 }
 
-/// No bytes.
+/// A span of no bytes.
 pub fn no_span() -> Span
     ensures { result ≡ no_span }
 {

@@ -24,10 +24,10 @@ use mc_model::texts::{BAD_DATA_CHUNK, LINE_TOO_LONG, OBJECT_TOO_LARGE};
 use mc_model::{CallSpan, Span, Verb};
 use memchr::memchr;
 
-/// What stands at the front of some bytes.
+/// What the front of some bytes is.
 #[derive(Clone, Copy, Debug, PartialEq, Eq)]
 pub enum ReadRequest {
-    /// A whole request of so many bytes.
+    /// A whole request of `length` bytes.
     Whole { length: usize },
     /// Less than a whole request: more bytes are needed.
     More,
@@ -87,7 +87,7 @@ fn block_refusal(limits: &Limits, block: &[u8], ending: &[u8]) -> Option<u8>
     }
 }
 
-/// A request whose line, with its LF at `k`, wants a block of `n` bytes.
+/// A request whose line, with its LF at `k`, has a block of `n` bytes.
 #[tactic(auto, unfolding(crate::specs::Spells::finished))]
 fn with_block(
     bytes: &[u8],
@@ -182,8 +182,8 @@ fn first(bytes: &[u8], limits: &Limits) -> Option<Request>
     }
 }
 
-/// The request that begins the bytes, if a whole one does. It is read once, and its places are those of its own bytes; bytes
-/// behind it are not looked at.
+/// The request that begins the bytes, if a whole one does. Its places are within its own bytes, and
+/// bytes after it make no difference.
 pub fn read_front(bytes: &[u8], limits: &Limits) -> Option<Request>
     requires { 0 < limits.now.buckets }
     ensures some { IfSome result (λ r. BeginsAs limits.now bytes.now r) }
@@ -195,7 +195,7 @@ pub fn read_front(bytes: &[u8], limits: &Limits) -> Option<Request>
     }
 }
 
-/// How long the request is that begins the bytes. Bytes behind it are not looked at.
+/// How long the request is that begins the bytes. Bytes after it make no difference.
 pub fn read_request(bytes: &[u8], limits: &Limits) -> ReadRequest
     requires { 0 < limits.now.buckets }
     ensures { Reads limits.now bytes.now result }

@@ -15,7 +15,7 @@ use crate::words::word;
 use mc_model::{CallSpan, Span};
 use sei_code::fnv64;
 
-/// A request that was read from the front of some bytes. It keeps places of these bytes, which its
+/// A request that was read from the front of some bytes. It holds places in these bytes, which its
 /// calls need again.
 #[derive(Clone, Copy)]
 pub struct Request {
@@ -49,7 +49,7 @@ impl Request {
         }
     }
 
-    /// Whether it is a refusal behind whose call the connection is closed.
+    /// Whether it is a refusal after which the connection is closed.
     pub fn is_closing(&self) -> bool
         ensures { (bytes : List ℕ) → IsOf bytes self.now → result ≡ is_closing (meaning_at bytes self.now) }
     {
@@ -60,7 +60,7 @@ impl Request {
         }
     }
 
-    /// Whether no request behind it is read: it is `quit`, or such a refusal.
+    /// Whether no request after it is read: it is `quit`, or a refusal that closes the connection.
     pub fn ends_connection(&self) -> bool
         ensures { (bytes : List ℕ) → IsOf bytes self.now → result ≡ ends_connection (meaning_at bytes self.now) }
     {
@@ -71,7 +71,8 @@ impl Request {
         }
     }
 
-    /// Its nth call, from 0, whose key and block are places of the bytes that it was read from.
+    /// Its nth call, from 0. The call's key and block are places in the bytes that the request was
+    /// read from.
     #[tactic(auto, unfolding(crate::specs::Meaning::calls_of))]
     pub fn call(&self, bytes: &[u8], nth: u64) -> Option<CallSpan>
         requires { IsOf bytes.now self.now }

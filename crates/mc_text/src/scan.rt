@@ -1,4 +1,4 @@
-//! The words of a line, read one after the other, so that each byte is looked at once.
+//! An iterator over the words of a line.
 
 ghost use Rattle.std.specs.Prelude.{◌≡◌, ℕ, ◌+◌, ◌<◌, ◌≤◌, List, length, drop, nat_lt, true, false, IfSome, IfNone};
 ghost use Rattle.mc_text.specs.Words.{words, arg};
@@ -8,17 +8,17 @@ ghost use Rattle.mc_text.specs.Walk.{next_of, IsScan, IsLast};
 use crate::fields::is_noreply;
 use crate::words::next_word;
 
-/// Where a reader of a line's words stands.
+/// An iterator over the words of a line.
 #[derive(Clone, Copy)]
 pub struct Scan {
-    /// Where in the line the next word is looked for.
+    /// Where in the line the search for the next word begins.
     at: usize,
     /// The number of the next word.
     nth: usize,
 }
 
 impl Scan {
-    /// Before the first word.
+    /// An iterator before the first word.
     pub fn start() -> Scan
         ensures place { (line : List ℕ) → IsScan line result }
         ensures first { next_of result ≡ 0 }
@@ -55,7 +55,8 @@ impl Scan {
         self.at
     }
 
-    /// Whether `noreply` is the one word left, if no other is left and none was missing. `last` is the last word that was read.
+    /// Whether `noreply` is the one word left, or false if no word is left. None if other words are
+    /// left, or if a word was missing. `last` is the last word that was read.
     pub fn ending(mut self, line: &[u8], last: &[u8]) -> Option<bool>
         requires place { IsScan line.now self }
         requires few { next_of self < 13 }

@@ -18,13 +18,13 @@ const LIMITS: Limits = Limits {
 #[derive(Clone, Copy, Debug, PartialEq, Eq)]
 enum Outcome {
     More,
-    /// So many bytes, answered by a text.
+    /// This many bytes, answered by a text.
     Text(usize, u8),
     /// The same, without an answer.
     Silent(usize, u8),
     /// The same, and the connection is closed.
     Closing(usize, u8),
-    /// So many bytes, and calls at keys.
+    /// This many bytes, and calls at keys.
     Calls(usize, u64),
 }
 
@@ -61,7 +61,7 @@ fn first_call(text: &[u8]) -> Option<CallSpan> {
     parse(text, &LIMITS)?.call(text, 0)
 }
 
-/// The calls of a request that has three, by a walk.
+/// The calls of a request that has three, by an iterator.
 fn three_calls(text: &[u8]) -> Option<[CallSpan; 3]> {
     let request = parse(text, &LIMITS)?;
     let mut cursor = request.cursor(text);

@@ -43,7 +43,7 @@ fn word_end(line: &[u8], from: usize) -> usize
     at
 }
 
-/// The first word at `at` or behind it.
+/// The first word at `at` or after it.
 #[tactic(auto, using(crate::proofs::WordLaws::word_steps))]
 pub fn next_word(line: &[u8], at: usize) -> Option<Span>
     requires { at ≤ length line.now }

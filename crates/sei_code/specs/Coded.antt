@@ -1,14 +1,14 @@
--- A word beside its check, by which it is known again.
+-- A word with its check, which is the word's bitwise complement.
 use Rattle.std.specs.Prelude.{ℕ, ◌-◌, ◌^◌, ◌==◌, Option, Some, None, if◌then◌else◌}
 use Rattle.sei_code.specs.declared.coded.Coded.{Coded}
 
--- each of the 64 bits turned
+-- each of the 64 bits inverted
 abbrev pub complement : ℕ → ℕ
 complement v = 2 ^ 64 - 1 - v
 
 abbrev pub sealed : ℕ → Coded
 sealed v = record { value = v; check = complement v }
 
--- the value where its check is its complement, and nothing elsewhere
+-- the value if its check is its complement, else none
 abbrev pub read_of : Coded → Option ℕ
 read_of c = if c.check == complement c.value then Some c.value else None

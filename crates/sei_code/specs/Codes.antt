@@ -2,7 +2,7 @@
 use Rattle.std.specs.Prelude.{◌≡◌, ◌≢◌, ℕ, ◌*◌, ◌%◌, ◌^◌, ◌<◌, List, ◌++◌, fold, length, slice_index, bit_xor}
 use Rattle.std.specs.Int.{w64, to_be_bytes}
 
--- where each code begins
+-- the state before the first byte
 abbrev pub offset_basis : ℕ
 offset_basis = 0xcbf29ce484222325
 

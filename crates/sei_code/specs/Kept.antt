@@ -13,7 +13,7 @@ has_room k = nat_lt (length k.items) k.room
 abbrev pub pushed : {A : Type 0} → Kept A → A → Kept A
 pushed k x = record { items = k.items ++ x ∷ []; room = k.room }
 
--- with one item more at the end where there is room, and else as it was
+-- with one item more at the end if there is room, else unchanged
 abbrev pub offered : {A : Type 0} → Kept A → A → Kept A
 offered k x = if has_room k then pushed k x else k
 

@@ -1,4 +1,4 @@
-//! Lists whose room is fixed when they are made, so that nothing is allocated afterwards.
+//! Lists whose room is fixed when they are made.
 ghost use Rattle.std.specs.Prelude.{◌≡◌, ◌↔◌, false, ◌<◌, ◌≤◌, ◌+◌, ◌-◌, ◌^◌, IfOk, IfSome, length, slice_get, nat_lt, nat_le};
 ghost use Rattle.std.specs.Bool.{OnTrue, OnFalse};
 ghost use Rattle.sei_code.specs.Kept.{Kept, has_room, offered, replaced, extended, empty_kept, emptied};
@@ -27,7 +27,7 @@ impl<T> Model for Bounded<T> {
 }
 
 impl<T: Copy + Drop> Bounded<T> {
-    /// An empty list with room for `room` items. `filler` stands in the cells that hold no item.
+    /// An empty list with room for `room` items. `filler` fills the cells that hold no item.
     pub fn new(alloc: Global, room: usize, filler: T) -> Result<Bounded<T>, Memory>
         ensures { IfOk result (λ list. list ≡ empty_kept T room) }
     {
@@ -37,7 +37,7 @@ impl<T: Copy + Drop> Bounded<T> {
         })
     }
 
-    /// Whether one item more goes in.
+    /// Whether one more item fits.
     pub fn has_room(&self) -> bool
         ensures answer { result ≡ has_room self.now }
         ensures within { length self.now.items ≤ self.now.room }
@@ -52,7 +52,7 @@ impl<T: Copy + Drop> Bounded<T> {
         self.len
     }
 
-    /// How many items more go in.
+    /// How many more items fit.
     pub fn spare(&self) -> usize
         ensures value { result ≡ self.now.room - length self.now.items }
         ensures within { length self.now.items ≤ self.now.room }
@@ -67,7 +67,7 @@ impl<T: Copy + Drop> Bounded<T> {
         &self.cells[..self.len]
     }
 
-    /// The item at `i`, counted from 0.
+    /// The item at `i`, counted from 0, or `None` if there are no more than `i` items.
     pub fn get(&self, i: usize) -> Option<T>
         ensures found { result ≡ slice_get self.now.items i }
         ensures below { IfSome result (λ _. i < 2 ^ 64 - 1) }
@@ -79,7 +79,7 @@ impl<T: Copy + Drop> Bounded<T> {
         }
     }
 
-    /// Puts the item at the end. False exactly where the list is full, which then stays as it is.
+    /// Appends the item. False exactly if the list is full; then nothing has changed.
     pub fn push(&mut self, x: T) -> bool
         ensures answer { result ≡ has_room self.old }
         ensures full { result ≡ false ↔ length self.old.items ≡ self.old.room }
@@ -94,8 +94,8 @@ impl<T: Copy + Drop> Bounded<T> {
         }
     }
 
-    /// Puts another item in the place of the one at `i`. False where there is none, and then
-    /// nothing has changed.
+    /// Puts another item in the place of the one at `i`. False if there is none; then nothing has
+    /// changed.
     pub fn set(&mut self, i: usize, x: T) -> bool
         ensures there { result ≡ nat_lt i (length self.old.items) }
         ensures done { OnTrue result (self.new ≡ replaced self.old i x) }
@@ -108,8 +108,8 @@ impl<T: Copy + Drop> Bounded<T> {
         there
     }
 
-    /// Puts all the items at the end, in their order. False where there is no room for all of them,
-    /// and then nothing has changed.
+    /// Appends all the items, in their order. False if there is no room for all of them; then
+    /// nothing has changed.
     pub fn extend_from_slice(&mut self, items: &[T]) -> bool
         ensures answer { result ≡ nat_le (length self.old.items + length items.now) self.old.room }
         ensures done { OnTrue result (self.new ≡ extended self.old items.now) }
@@ -124,14 +124,14 @@ impl<T: Copy + Drop> Bounded<T> {
         true
     }
 
-    /// Takes all items out, and keeps the room.
+    /// Removes all items, and keeps the room.
     pub fn clear(&mut self)
         ensures { self.new ≡ emptied self.old }
     {
         self.len = 0;
     }
 
-    /// The items, in the memory that was room for them.
+    /// The items, in the memory of the list.
     pub fn into_vec(self) -> Vec<T>
         ensures { result.items ≡ self.items }
     {

@@ -1,4 +1,4 @@
-//! Bytes and words in bounded lists.
+//! Lists of bytes and of words, whose room is fixed when they are made.
 ghost use Rattle.std.specs.Prelude.{◌≡◌, ◌↔◌, false, ◌<◌, ◌≤◌, ◌+◌, ◌-◌, ◌^◌, ℕ, IfOk, IfSome, length, slice_get, nat_lt, nat_le};
 ghost use Rattle.std.specs.Bool.{OnTrue, OnFalse};
 ghost use Rattle.sei_code.specs.Kept.{Kept, has_room, offered, replaced, extended, empty_kept, emptied};
@@ -24,7 +24,7 @@ impl Model for Buffer {
 }
 
 impl Buffer {
-    /// An empty buffer with room for `room` bytes. Nothing is allocated afterwards.
+    /// An empty buffer with room for `room` bytes.
     pub fn new(alloc: Global, room: usize) -> Result<Buffer, Memory>
         ensures { IfOk result (λ made. made ≡ empty_kept ℕ room) }
     {
@@ -33,7 +33,7 @@ impl Buffer {
         })
     }
 
-    /// Whether one byte more goes in.
+    /// Whether one more byte fits.
     pub fn has_room(&self) -> bool
         ensures answer { result ≡ has_room self.now }
         ensures within { length self.now.items ≤ self.now.room }
@@ -48,7 +48,7 @@ impl Buffer {
         self.list.len()
     }
 
-    /// How many bytes more go in.
+    /// How many more bytes fit.
     pub fn spare(&self) -> usize
         ensures value { result ≡ self.now.room - length self.now.items }
         ensures within { length self.now.items ≤ self.now.room }
@@ -56,7 +56,7 @@ impl Buffer {
         self.list.spare()
     }
 
-    /// The byte at `i`, counted from 0, or `None` where there are no more than `i`.
+    /// The byte at `i`, counted from 0, or `None` if there are no more than `i` bytes.
     pub fn get(&self, i: usize) -> Option<u8>
         ensures found { result ≡ slice_get self.now.items i }
         ensures below { IfSome result (λ _. i < 2 ^ 64 - 1) }
@@ -64,7 +64,7 @@ impl Buffer {
         self.list.get(i)
     }
 
-    /// Puts the byte at the end. False exactly where there is no room, and then all stays.
+    /// Appends the byte. False exactly if the buffer is full; then nothing has changed.
     pub fn push(&mut self, b: u8) -> bool
         ensures answer { result ≡ has_room self.old }
         ensures full { result ≡ false ↔ length self.old.items ≡ self.old.room }
@@ -73,8 +73,8 @@ impl Buffer {
         self.list.push(b)
     }
 
-    /// Puts another byte in the place of the one at `i`. False where there is none, and then
-    /// nothing has changed.
+    /// Puts another byte in the place of the one at `i`. False if there is none; then nothing has
+    /// changed.
     pub fn set(&mut self, i: usize, b: u8) -> bool
         ensures there { result ≡ nat_lt i (length self.old.items) }
         ensures done { OnTrue result (self.new ≡ replaced self.old i b) }
@@ -83,8 +83,8 @@ impl Buffer {
         self.list.set(i, b)
     }
 
-    /// Puts all the bytes at the end, in their order. False where there is no room for all of them,
-    /// and then nothing has changed.
+    /// Appends all the bytes, in their order. False if there is no room for all of them; then
+    /// nothing has changed.
     pub fn extend_from_slice(&mut self, bytes: &[u8]) -> bool
         ensures answer { result ≡ nat_le (length self.old.items + length bytes.now) self.old.room }
         ensures done { OnTrue result (self.new ≡ extended self.old bytes.now) }
@@ -100,14 +100,14 @@ impl Buffer {
         self.list.items()
     }
 
-    /// Takes all bytes out, and keeps the room.
+    /// Removes all bytes, and keeps the room.
     pub fn clear(&mut self)
         ensures { self.new ≡ emptied self.old }
     {
         self.list.clear();
     }
 
-    /// The bytes, in the memory that was room for them.
+    /// The bytes, in the memory of the buffer.
     pub fn into_vec(self) -> Vec<u8>
         ensures { result.items ≡ self.items }
     {
@@ -131,7 +131,7 @@ impl Model for WordList {
 }
 
 impl WordList {
-    /// An empty list with room for `room` words. Nothing is allocated afterwards.
+    /// An empty list with room for `room` words.
     pub fn new(alloc: Global, room: usize) -> Result<WordList, Memory>
         ensures { IfOk result (λ made. made ≡ empty_kept ℕ room) }
     {
@@ -140,7 +140,7 @@ impl WordList {
         })
     }
 
-    /// Whether one word more goes in.
+    /// Whether one more word fits.
     pub fn has_room(&self) -> bool
         ensures answer { result ≡ has_room self.now }
         ensures within { length self.now.items ≤ self.now.room }
@@ -155,7 +155,7 @@ impl WordList {
         self.list.len()
     }
 
-    /// How many words more go in.
+    /// How many more words fit.
     pub fn spare(&self) -> usize
         ensures value { result ≡ self.now.room - length self.now.items }
         ensures within { length self.now.items ≤ self.now.room }
@@ -163,7 +163,7 @@ impl WordList {
         self.list.spare()
     }
 
-    /// The word at `i`, counted from 0, or `None` where there are no more than `i`.
+    /// The word at `i`, counted from 0, or `None` if there are no more than `i` words.
     pub fn get(&self, i: usize) -> Option<u64>
         ensures found { result ≡ slice_get self.now.items i }
         ensures below { IfSome result (λ _. i < 2 ^ 64 - 1) }
@@ -171,7 +171,7 @@ impl WordList {
         self.list.get(i)
     }
 
-    /// Puts the word at the end. False exactly where there is no room, and then all stays.
+    /// Appends the word. False exactly if the list is full; then nothing has changed.
     pub fn push(&mut self, w: u64) -> bool
         ensures answer { result ≡ has_room self.old }
         ensures full { result ≡ false ↔ length self.old.items ≡ self.old.room }
@@ -180,8 +180,8 @@ impl WordList {
         self.list.push(w)
     }
 
-    /// Puts another word in the place of the one at `i`. False where there is none, and then
-    /// nothing has changed.
+    /// Puts another word in the place of the one at `i`. False if there is none; then nothing has
+    /// changed.
     pub fn set(&mut self, i: usize, w: u64) -> bool
         ensures there { result ≡ nat_lt i (length self.old.items) }
         ensures done { OnTrue result (self.new ≡ replaced self.old i w) }
@@ -190,8 +190,8 @@ impl WordList {
         self.list.set(i, w)
     }
 
-    /// Puts all the words at the end, in their order. False where there is no room for all of them,
-    /// and then nothing has changed.
+    /// Appends all the words, in their order. False if there is no room for all of them; then
+    /// nothing has changed.
     pub fn extend_from_slice(&mut self, words: &[u64]) -> bool
         ensures answer { result ≡ nat_le (length self.old.items + length words.now) self.old.room }
         ensures done { OnTrue result (self.new ≡ extended self.old words.now) }
@@ -207,7 +207,7 @@ impl WordList {
         self.list.items()
     }
 
-    /// Takes all words out, and keeps the room.
+    /// Removes all words, and keeps the room.
     pub fn clear(&mut self)
         ensures { self.new ≡ emptied self.old }
     {

@@ -1,13 +1,13 @@
-//! A word beside its check.
+//! A word with its check.
 ghost use Rattle.std.specs.Prelude.{◌≡◌};
 ghost use Rattle.sei_code.specs.Coded.{sealed, read_of};
 
-/// A value and, once it is sealed, its bitwise complement.
+/// A value with its check. Once it is sealed, the check is the value's bitwise complement.
 #[derive(Clone, Copy, Debug, PartialEq, Eq)]
 pub struct Coded {
     /// The value.
     pub value: u64,
-    /// The complement of the value, where neither of the two was altered.
+    /// The complement of the value, if neither of the two was altered.
     pub check: u64,
 }
 
@@ -22,7 +22,7 @@ impl Coded {
         }
     }
 
-    /// The value, or `None` exactly where the check is not its complement.
+    /// The value, or `None` exactly if the check is not its complement.
     pub fn read(&self) -> Option<u64>
         ensures { result ≡ read_of self.now }
     {

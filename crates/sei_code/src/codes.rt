@@ -15,7 +15,7 @@ pub fn fnv64(bytes: &[u8]) -> u64
     fold.finish()
 }
 
-/// The code of message `n`. It covers a header of 16 bytes and then the bytes: the header is `n`
+/// The code of message `n`. It covers a header of 16 bytes and then the bytes. The header is `n`
 /// and the number of bytes, each as eight bytes with the most significant first.
 #[tactic(auto, unfolding(crate::specs::Codes::fnv64, crate::specs::Codes::message_code), using(crate::proofs::Apart::fnv_from_append))]
 pub fn message_code(n: u64, bytes: &[u8]) -> u64
@@ -31,7 +31,7 @@ pub fn message_code(n: u64, bytes: &[u8]) -> u64
 }
 
 /// The message codes of two byte lists that differ in the byte at `at` alone. One altered byte
-/// always changes both codes.
+/// always changes the message code, and the plain code too.
 pub fn codes_apart(n: u64, one: &[u8], two: &[u8], at: usize) -> (u64, u64)
     requires { DifferAt one.now two.now at }
     ensures first { result.0 ≡ message_code n one.now }

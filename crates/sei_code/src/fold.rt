@@ -1,4 +1,4 @@
-//! The fold that every code is made by, for callers whose bytes come piece by piece.
+//! The running state of a code, for callers whose bytes come in pieces.
 ghost use Rattle.std.specs.Prelude.{◌≡◌};
 ghost use Rattle.std.specs.Int.{w64, to_be_bytes};
 ghost use Rattle.sei_code.specs.Codes.{offset_basis, fnv_byte, fnv_from};
@@ -9,7 +9,7 @@ const OFFSET_BASIS: u64 = 0xcbf2_9ce4_8422_2325;
 /// FNV's prime for 64 bits.
 const PRIME: u64 = 0x100_0000_01b3;
 
-/// A code in the making, by FNV-1a with 64 bits (Fowler, Noll and Vo).
+/// An unfinished code, by FNV-1a with 64 bits (Fowler, Noll and Vo).
 #[derive(Clone, Copy, Debug, PartialEq, Eq)]
 pub struct Fold {
     /// The code of the bytes so far.

@@ -1,6 +1,6 @@
-//! The codes of byte lists: FNV-1a with 64 bits, and the code of a numbered message; a word beside
-//! its check; and lists whose room is fixed when they are made. The one type of want of memory
-//! stands here too, since every other crate stands on this one.
+//! The codes of byte lists: FNV-1a with 64 bits, and the code of a numbered message. Words with a
+//! check, and lists whose room is fixed when they are made. The one type for out of memory is here
+//! too, since every other crate is above this one.
 #![tactic(auto)]
 
 mod bounded;
@@ -20,5 +20,5 @@ pub use fold::Fold;
 pub use modes::{Mode, Rendered};
 use std::alloc::AllocError;
 
-/// Want of memory: the error of a call that can fail for no other reason.
+/// Out of memory: the error of a call that can fail for no other reason.
 pub type Memory = AllocError;

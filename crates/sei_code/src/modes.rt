@@ -1,4 +1,4 @@
-//! Words that several crates speak of.
+//! Modes and outcomes that several crates name.
 
 /// How the replies of a connection are sent.
 #[derive(Clone, Copy, Debug, PartialEq, Eq)]
@@ -9,7 +9,7 @@ pub enum Mode {
     Coded,
 }
 
-/// What came of making output bytes from words.
+/// The outcome of making output bytes from words.
 #[derive(Clone, Copy, Debug, PartialEq, Eq)]
 pub enum Rendered {
     /// All bytes were made.

@@ -1,5 +1,4 @@
-//! Values that were published for FNV-1a, and message codes that another program computed; lists
-//! at their ends; and a word whose check is not its own.
+//! Published values of FNV-1a, message codes from another program, and lists and words at limits.
 use super::*;
 use std::test::Fail;
 

@@ -1,4 +1,4 @@
--- How what two passes did is compared: each comparison is one test.
+-- How the results of two passes are compared: each comparison is one test.
 use Rattle.std.specs.Prelude.{ℕ, Bool, true, false, ◌&&◌, ◌==◌, List, [], Option, Some, None, slice_get}
 use Rattle.std.specs.Str.{bytes_eq}
 use Rattle.std.specs.declared.result.Result.{Result}
@@ -27,7 +27,7 @@ same_change (Some a) (Some b) = a.address == b.address && a.was == b.was && a.be
 abbrev pub entry_tree : List Change → List Change → ℕ → Tree Bool
 entry_tree one two i = tested (same_change (slice_get one i) (slice_get two i))
 
--- the word that stands at a change's address, where there is one, is read, and tested to be the new one
+-- the word at a change's address, if there is one, is read, and tested to be the new one
 abbrev pub word_read : Change → Option ℕ → Tree (Result Bool AbortCause)
 word_read c None = Done (Err (Range c.address))
 word_read c (Some word) = Ask (Value word) (λ w. Ask (Test (w == c.becomes)) (λ yes. Done (Ok yes)))
@@ -35,12 +35,12 @@ word_read c (Some word) = Ask (Value word) (λ w. Ask (Test (w == c.becomes)) (�
 abbrev pub word_tree : List ℕ → Change → Tree (Result Bool AbortCause)
 word_tree words c = word_read c (slice_get words c.address)
 
--- the word of the change at a place of a log; where there is none, nothing is asked
+-- the word of the change at a place of a log; if there is none, nothing is asked
 abbrev pub word_at : List ℕ → Option Change → Tree (Result Bool AbortCause)
 word_at words None = Done (Ok true)
 word_at words (Some c) = word_tree words c
 
--- what comes of it without a strike
+-- the outcome without a strike
 abbrev pub word_is : Change → Option ℕ → Result Bool AbortCause
 word_is c None = Err (Range c.address)
 word_is c (Some word) = Ok (word == c.becomes)
@@ -62,13 +62,13 @@ same_reply one first two second = same_code one two && bytes_eq first second
 abbrev pub codes_tree : Option ℕ → List ℕ → Option ℕ → List ℕ → Tree Bool
 codes_tree one first two second = tested (same_reply one first two second)
 
--- what goes out for a reply that is message number `answer` of its connection: in plain mode its bytes alone. No coded
--- connection is begun yet; the frame of its message will stand in the other line
+-- the bytes that are sent for a reply that is message number `answer` of its connection. In plain mode they are its
+-- bytes alone. No coded connection is begun yet; the other line is for the frame of its message
 abbrev pub wire_of : Mode → ℕ → List ℕ → List ℕ
 wire_of Plain answer reply = reply
 wire_of Coded answer reply = []
 
--- the bytes are what goes out for those that the pass made, and its code is theirs as the message of this number
+-- the bytes are what is sent for those that the pass made, and its code is theirs as the message of this number
 abbrev pub is_message : Mode → ℕ → Option ℕ → List ℕ → List ℕ → Bool
 is_message mode answer code first bytes = same_code code (Some (message_code answer bytes)) && bytes_eq bytes (wire_of mode answer first)
 

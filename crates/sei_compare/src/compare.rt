@@ -1,4 +1,4 @@
-//! The comparisons, each of which is one test of the core's.
+//! The comparisons, each with one test that the core is asked for.
 ghost use Rattle.std.specs.Prelude.{◌≡◌, ◌<◌, length, slice_get};
 ghost use Rattle.std.specs.Option.{option_copied};
 ghost use Rattle.sei_fault.specs.Counts.{Answered};
@@ -30,10 +30,11 @@ fn same_change(one: Option<Change>, two: Option<Change>) -> bool
 }
 
 /// Whether the word at the address of the entry at `i`, in the words that are lent, is the entry's
-/// new word. The core is asked for the word that stands there, and then whether what it gave is the
-/// new word.
+/// new word. The core is asked for the word that is there, and then whether its answer is the new
+/// word.
 ///
-/// It is `Range`, with the entry's address, exactly where no word stands there or no bucket is lent,
+/// It is `Range`, with the entry's address, exactly if no word is there or no bucket is lent. Then
+/// nothing is asked.
 /// and then nothing is asked.
 pub fn word<K: Core>(
     log: &WriteLog,
@@ -51,7 +52,7 @@ pub fn word<K: Core>(
     }
 }
 
-/// The same, in what is lent.
+/// The same as `word`, for any type of lent words.
 pub fn word_on<L: Lent, K: Core>(
     log: &WriteLog,
     i: u64,
@@ -84,8 +85,8 @@ fn change_word<L: Lent, K: Core>(change: Change, lent: &L, core: &mut K) -> Resu
     }
 }
 
-/// Whether the outputs of two passes are the same: both codes are there and equal, and the bytes are
-/// equal. The core is asked once.
+/// Whether the outputs of two passes are the same: both codes are there and equal, and the bytes
+/// are equal. The core is asked once.
 pub fn codes<K: Core>(
     one: Option<u64>,
     first: &[u8],
@@ -108,9 +109,9 @@ fn same_code(one: Option<u64>, two: Option<u64>) -> bool
     }
 }
 
-/// Whether `bytes`, the copy for the wire, are the output bytes `first` of a pass, and the pass's
-/// code is there and is the code of `bytes` as message number `answer`. The core is asked once.
-/// In plain mode a reply goes out as its bytes alone.
+/// Whether `bytes`, the copy for the wire, are the output bytes `first` of a pass. The pass's code
+/// must be there, and be the code of `bytes` as message number `answer`. The core is asked once. In
+/// plain mode a reply is sent as its bytes alone.
 pub fn wire<K: Core>(
     bytes: &[u8],
     mode: Mode,

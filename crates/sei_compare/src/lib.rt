@@ -1,4 +1,4 @@
-//! Comparing what two passes did: the entries of their logs, the words that stand now, the outputs
+//! Compares what two passes did: the entries of their logs, the words of the bucket, the outputs
 //! with their codes, and the copy for the wire.
 #![tactic(auto)]
 

@@ -1,4 +1,4 @@
-//! Each comparison, once of what is equal, and of what differs in one part or is missing.
+//! Each comparison, once of equal values, and of values that differ in one part or are missing.
 use super::*;
 use mc_model::Geometry;
 use sei_code::{Mode, message_code};

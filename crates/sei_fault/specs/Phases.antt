@@ -3,7 +3,7 @@ use Rattle.std.specs.Prelude.{ℕ}
 use Rattle.sei_fault.specs.declared.place.Phase.{Phase}
 use Rattle.sei_fault.specs.declared.place.Phase.TheVariants.{Guard, Take, First, Restore, Second, Compare, Verify, Enter, Give, Send, Done}
 
--- how many phases stand before this one
+-- how many phases come before this one
 abbrev pub phase_number : Phase → ℕ
 phase_number Guard = 0
 phase_number Take = 1

@@ -42,12 +42,12 @@ fits plan site = same_phase plan.phase site.place.phase && selects plan.select s
 abbrev pub none_yet : StepCounts
 none_yet = record { value = 0 }
 
--- one value more was read in the step; the count stays at the last value of a u64
+-- one value more was read in the step; at the last value of a u64 the count does not change
 abbrev pub one_value_more : StepCounts → StepCounts
 one_value_more so_far = record so_far { value = min (so_far.value + 1) (2 ^ 64 - 1) }
 
--- what a fault of this kind answers in its step, where it alters the answer: so many answers were
--- counted before in the step, and none was altered yet
+-- what a fault of this kind answers in its step, if it alters the answer. The counts are of the answers before in the
+-- step, of which none was altered
 abbrev pub fault : Kind → StepCounts → (q : Question) → Option (Answer q)
 fault (Read nth mask) so_far (Value h) = if so_far.value == nth && not (mask == 0) then Some (bit_xor h mask) else None
 fault (Write mask) so_far (Written h) = if mask == 0 then None else Some (bit_xor h mask)

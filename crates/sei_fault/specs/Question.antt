@@ -1,11 +1,11 @@
--- What a core is asked, and its answers. A further question is one more case of each of the three.
+-- The questions that a core is asked, and their answers. A further question is one more case of each of the three.
 use Rattle.std.specs.Prelude.{ℕ, Bool}
 use Rattle.sei_fault.specs.declared.place.Place.{Place}
 use Rattle.sei_fault.specs.declared.place.Site.{Site}
 use Rattle.sei_fault.specs.declared.place.Times.{Times}
 use Rattle.sei_fault.specs.declared.place.Times.TheVariants.{Once}
 
--- the questions of `value`, `written`, `test`, `times` and `next`, with what they are passed
+-- the questions of `value`, `written`, `test`, `times` and `next`, with their arguments
 pub data Question : Type 0 where
   Value : ℕ → Question
   Written : ℕ → Question

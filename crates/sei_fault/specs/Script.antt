@@ -1,4 +1,4 @@
--- The core that carries out one planned fault, by its plan and what became of it.
+-- The core that carries out one planned fault, by its plan and the plan's stage.
 use Rattle.std.specs.Prelude.{ℕ, ◌-◌, Bool, true, false, if◌then◌else◌, Option, Some, None, is_some, unwrap_or}
 use Rattle.sei_fault.specs.declared.place.Site.{Site}
 use Rattle.sei_fault.specs.declared.plan.Planned.{Planned}
@@ -9,8 +9,8 @@ use Rattle.sei_fault.specs.Plans.{fits, none_yet, one_value_more, fault}
 use Rattle.sei_fault.specs.Question.{Question, Answer, honestly_to}
 use Rattle.sei_fault.specs.Question.Question.{Value, Often}
 
--- how many questions were asked, the plan, and where it stands: it waits for its step, its step is
--- being made and so many answers were counted in it, it has struck, or its step is over
+-- how many questions were asked, the plan, and its stage. The plan waits for its step; or its step is being made, and
+-- the answers in it are counted; or it has struck; or its step is over
 pub record ScriptState : Type 0 where
   pub asked : ℕ
   pub plan : Option Planned
@@ -19,7 +19,7 @@ pub record ScriptState : Type 0 where
 abbrev pub script_begin : Option Planned → ScriptState
 script_begin plan = record { asked = 0; plan = plan; stage = Waiting }
 
--- a plan that waits is armed where it fits the site
+-- a plan that waits is armed if it fits the site
 abbrev pub waited : Option Planned → Site → Stage
 waited None site = Waiting
 waited (Some p) site = if fits p site then Armed none_yet else Waiting
@@ -31,12 +31,12 @@ begun plan (Armed so_far) site = Over
 begun plan Struck site = Struck
 begun plan Over site = Over
 
--- the stage in which a question is answered: how often the act is done is asked first in a step
+-- the stage in which a question is answered: a step begins with the question how often its act is done
 abbrev pub stage_at : Option Planned → Stage → Question → Stage
 stage_at plan stage (Often site) = begun plan stage site
 stage_at plan stage q = stage
 
--- what the plan answers in a stage, where it alters the answer
+-- what the plan answers in a stage, if it alters the answer
 abbrev pub altered_in : Option Planned → Stage → (q : Question) → Option (Answer q)
 altered_in (Some p) (Armed so_far) q = fault p.kind so_far q
 altered_in plan stage q = None
@@ -57,7 +57,7 @@ abbrev pub read_more : Stage → Stage
 read_more (Armed so_far) = Armed (one_value_more so_far)
 read_more stage = stage
 
--- the stage behind a question, and whether its answer was altered
+-- the stage after a question, by whether its answer was altered
 abbrev pub stage_after : Stage → Bool → Question → Stage
 stage_after stage is_altered (Value h) = read_more (settled stage is_altered)
 stage_after stage is_altered q = settled stage is_altered
@@ -69,11 +69,11 @@ script_next s q = record {
   stage = stage_after (stage_at s.plan s.stage q) (is_some (altered s q)) q;
 }
 
--- how many strikes fell
+-- how many strikes there were
 abbrev pub fallen : Stage → ℕ
 fallen Struck = 1
 fallen stage = 0
 
--- one strike can fall until the plan has struck, and none from then on
+-- one strike can come until the plan has struck, and none from then on
 abbrev pub script_counts : ScriptState → Counts
 script_counts s = record { asked = s.asked; struck = fallen s.stage; room = Some (1 - fallen s.stage) }

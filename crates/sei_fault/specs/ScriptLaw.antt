@@ -13,7 +13,7 @@ use Rattle.sei_fault.specs.Question.Question.{Value, Written, Test, Often, Goes}
 use Rattle.sei_fault.specs.Script.{ScriptState, waited, begun, stage_at, altered_in, altered, read_more, stage_after, script_answer, script_next, fallen, script_counts}
 use Rattle.sei_fault.specs.Scripted.{function_core}
 
--- arming strikes nothing
+-- no strike comes when a plan is armed
 waited_fallen : (b : Bool) → fallen (if b then stage.Armed none_yet else stage.Waiting) ≡ 0
 waited_fallen true = refl
 waited_fallen false = refl
@@ -22,7 +22,7 @@ waiting_fallen : (plan : Option Planned) (site : _) → fallen (waited plan site
 waiting_fallen None site = refl
 waiting_fallen (Some p) site = waited_fallen _
 
--- nor does the beginning of a step
+-- nor when a step begins
 begun_fallen : (plan : Option Planned) (s : Stage) (site : _) → fallen (begun plan s site) ≡ fallen s
 begun_fallen plan stage.Waiting site = waiting_fallen plan site
 begun_fallen plan (stage.Armed n) site = refl
@@ -35,7 +35,7 @@ read_fallen (stage.Armed n) = refl
 read_fallen stage.Struck = refl
 read_fallen stage.Over = refl
 
--- where nothing was altered, no strike fell
+-- if nothing was altered, no strike came
 pub same_fallen : (plan : Option Planned) (s : Stage) (q : Question) → fallen (stage_after (stage_at plan s q) false q) ≡ fallen s
 same_fallen plan s (Value h) = read_fallen s
 same_fallen plan s (Written h) = refl
@@ -43,7 +43,7 @@ same_fallen plan s (Test h) = refl
 same_fallen plan s (Often site) = begun_fallen plan s site
 same_fallen plan s (Goes h) = refl
 
--- where something was altered, one has fallen
+-- if something was altered, one strike came
 struck_fallen : (s : Stage) (q : Question) → fallen (stage_after s true q) ≡ 1
 struck_fallen s (Value h) = refl
 struck_fallen s (Written h) = refl
@@ -51,7 +51,7 @@ struck_fallen s (Test h) = refl
 struck_fallen s (Often site) = refl
 struck_fallen s (Goes h) = refl
 
--- behind a strike the plan alters nothing
+-- after a strike the plan alters nothing
 struck_at : (plan : Option Planned) (q : Question) → stage_at plan stage.Struck q ≡ stage.Struck
 struck_at plan (Value h) = refl
 struck_at plan (Written h) = refl

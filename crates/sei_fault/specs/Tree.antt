@@ -1,4 +1,4 @@
--- A piece of work as an interaction tree: what it asks, in order, and what it makes of the answers.
+-- A piece of work as an interaction tree: what it asks, in order, and what it does with the answers.
 use Rattle.std.specs.Prelude.{◌≡◌, ℕ, ◌+◌}
 use Rattle.sei_fault.specs.Counts.{Counts, Answered}
 use Rattle.sei_fault.specs.Question.{Question, Answer, honestly_to}
@@ -16,7 +16,7 @@ Runs gives (Ask q k) s t x = (a : Answer q) × (m : _) × gives s q a m × Runs 
 abbrev pub any_core : Counts → (q : Question) → Answer q → Counts → Type 0
 any_core c q a d = Answered (a ≡ honestly_to q) c d
 
--- the end where each answer is honest: the honest run
+-- the end if each answer is honest: the honest run
 abbrev pub honest : {R : Type 0} → Tree R → R
 honest (Done r) = r
 honest (Ask q k) = honest (k (honestly_to q))
@@ -26,7 +26,7 @@ abbrev pub questions : {R : Type 0} → Tree R → ℕ
 questions (Done r) = 0
 questions (Ask q k) = 1 + questions (k (honestly_to q))
 
--- one piece of work behind another
+-- one piece of work after another
 abbrev pub bound : {A B : Type 0} → Tree A → (A → Tree B) → Tree B
 bound (Done r) f = f r
 bound (Ask q k) f = Ask q (λ a. bound (k a) f)

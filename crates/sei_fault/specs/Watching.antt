@@ -15,10 +15,10 @@ watches (Some p) Waiting = true
 watches plan (Armed so_far) = true
 watches plan stage = false
 
--- all questions: those of the count, and outside the plan's step the ticks since
+-- all questions: those of the count and, outside of the plan's step, the ticks since
 abbrev pub asked_by : Stage → ℕ → ℕ → ℕ
 asked_by stage count ticks = min (count + (if is_armed stage then 0 else ticks)) (2 ^ 128 - 1)
 
--- in the plan's step the ticks stand at their last value
+-- in the plan's step the ticks are at their last value
 abbrev pub StandsAtEdge : Stage → ℕ → Type 0
 StandsAtEdge stage ticks = is_armed stage ≡ true → ticks ≡ 2 ^ 64 - 1

@@ -3,7 +3,7 @@
 /// Why a traversal aborts.
 #[derive(Clone, Copy, Debug, PartialEq, Eq)]
 pub enum AbortCause {
-    /// A phase was to be closed, and the gate stood at another number.
+    /// A phase was to be closed, and the gate was at another number.
     Gate {
         /// How many phases the gate has closed.
         done: u64,
@@ -27,9 +27,9 @@ pub enum AbortCause {
     LogFull,
     /// A list of output words or the output buffer was full.
     OutFull,
-    /// The output words are not of their form.
+    /// The output words do not have their form.
     Output,
-    /// No bucket is lent, or another one than the call's.
+    /// No bucket is lent, or it is not the call's bucket.
     Bucket,
     /// A recorded answer is missing or not admissible.
     Notes,

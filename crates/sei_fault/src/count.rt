@@ -4,16 +4,15 @@ ghost use Rattle.sei_fault.specs.Counts.{counted};
 
 use std::marker::Model;
 
-/// A number of questions, in two halves. It stays at the last value of a `u128` once it stands
-/// there. The upper half is touched only if the lower one turns, so a question costs one sum and
-/// one test.
+/// A number of questions, in two halves. At the last value of a `u128` it does not change. The
+/// upper half is used only if the lower one overflows.
 #[derive(Drop)]
 pub(crate) struct Count {
     /// The lower half.
     low: u64,
     /// The upper half.
     high: u64,
-    /// Whether it stands at its last value, whatever the halves are.
+    /// Whether it is at its last value, whatever the halves are.
     full: bool,
 }
 
@@ -47,7 +46,7 @@ impl Count {
         self.add(1);
     }
 
-    /// Counts so many questions.
+    /// Counts this many questions.
     #[inline(always)]
     pub(crate) fn add(&mut self, questions: u64)
         ensures { self.new ≡ min (self.old + questions) (2 ^ 128 - 1) }
@@ -58,7 +57,7 @@ impl Count {
         }
     }
 
-    /// Adds one to the upper half: the lower one has turned.
+    /// Adds one to the upper half: the lower one has overflowed.
     #[cold]
     #[inline(never)]
     fn carry(&mut self)

@@ -8,18 +8,18 @@ use super::{Place, Site, Times};
 
 /// What carries out the effects of a step. It answers each question honestly, or strikes.
 pub trait Core {
-    /// How many questions were asked, how many strikes fell, and how many can still fall, where
-    /// the core tells that.
+    /// How many questions were asked, how many strikes came, and how many can still come, if the
+    /// core tells that.
     ghost counts: { Self → Counts };
 
-    /// From which state the core gives which answer to a question, and its state afterwards.
+    /// From which state the core gives which answer to a question, and its state after it.
     ghost gives: { Self → (q : Question) → Answer q → Self → Type 0 };
 
     /// A word or a register that is read. Honest is the argument, its content.
     fn value(&mut self, honest: u64) -> u64
         ensures { gives self.old (Value honest) result self.new };
 
-    /// What is stored where the argument is to be stored. Honest is the argument.
+    /// What is stored in place of the argument. Honest is the argument.
     fn written(&mut self, honest: u64) -> u64
         ensures { gives self.old (Written honest) result self.new };
 

@@ -1,6 +1,6 @@
-//! The core that a step asks for each of its effects, and that may answer otherwise than honestly:
-//! so a transient fault is an answer like any other. One core never strikes, and one carries out a
-//! planned fault. The laws over what a step asks, and what it makes of the answers, stand in
+//! The core that a step asks for each of its effects. It may answer other than honestly, so a
+//! transient fault is an answer like any other. One core never strikes, and one carries out a
+//! planned fault. The laws over what a step asks, and what it does with the answers, are in
 //! `proofs/`.
 #![tactic(auto)]
 

@@ -30,7 +30,7 @@ pub enum Phase {
 }
 
 impl Phase {
-    /// How many phases stand before this one: 0 for `Guard` to 10 for `Done`.
+    /// How many phases come before this one: 0 for `Guard` to 10 for `Done`.
     pub fn number(&self) -> u64
         ensures { result ≡ phase_number self.now }
     {
@@ -50,7 +50,7 @@ impl Phase {
     }
 }
 
-/// A place in a traversal: one of its steps, its end, or one where it has no step.
+/// A place in a traversal: one of its steps, its end, or a place that has no step.
 #[derive(Clone, Copy, Debug, PartialEq, Eq)]
 pub struct Place {
     /// The phase.
@@ -60,11 +60,11 @@ pub struct Place {
     pub index: u64,
 }
 
-/// What kind of statement a step makes, as far as a planned fault may select by it. An address
-/// is the number that the statement's register holds before the step.
+/// The kind of statement that a step makes, as far as a planned fault can select by it. An address
+/// is the number in the statement's register before the step.
 #[derive(Clone, Copy, Debug, PartialEq, Eq)]
 pub enum Act {
-    /// Another statement than those below, or a step outside the two passes.
+    /// A statement other than those below, or a step outside of the two passes.
     Plain,
     /// Reads the word at this address of the bucket.
     Load(u64),
@@ -85,7 +85,7 @@ pub enum Act {
 /// A step that is about to be done.
 #[derive(Clone, Copy, Debug, PartialEq, Eq)]
 pub struct Site {
-    /// Where the step stands.
+    /// The place of the step.
     pub place: Place,
     /// What it does there.
     pub act: Act,

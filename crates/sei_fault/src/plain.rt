@@ -8,8 +8,8 @@ use super::count::Count;
 use super::{Core, Place, Single, Site, Times};
 use std::marker::Model;
 
-/// The core that answers each question honestly. It stands for the number of questions that it
-/// was asked: no strike falls, and it tells that none can fall.
+/// The core that answers each question honestly. Its value is the number of questions that it was
+/// asked. It never strikes, and tells that no strike can come.
 #[derive(Drop)]
 pub struct PlainCore {
     /// How many questions were asked.

@@ -7,8 +7,8 @@ ghost use Rattle.sei_fault.specs.Question.Question.{Value, Written, Test, Often,
 
 use super::{Act, Phase, Place, Site, Times};
 
-/// By what a planned fault selects its step among those of its phase. An address is that of a
-/// word of the bucket.
+/// How a planned fault selects its step among those of its phase. An address is that of a word of
+/// the bucket.
 #[derive(Clone, Copy, Debug, PartialEq, Eq)]
 pub enum Select {
     /// The step with this index.
@@ -69,18 +69,17 @@ pub enum Kind {
     Repeat,
     /// Goes on at another place.
     Jump {
-        /// That place. Where the step leads there by itself, nothing is altered, and that is no
-        /// strike.
+        /// That place. If the step goes on there anyway, nothing is altered, and that is no strike.
         to: Place,
     },
     /// Negates the outcome of the first comparison.
     Flip,
 }
 
-/// How many answers a step was given so far, of each kind of question whose answers a fault counts.
+/// How many answers of each kind that a fault counts a step got so far.
 #[derive(Clone, Copy)]
 pub(crate) struct StepCounts {
-    /// How many numbers were read. The count stays at its last value once it stands there.
+    /// How many numbers were read. At its last value the count does not change.
     pub(crate) value: u64,
 }
 
@@ -103,8 +102,8 @@ impl StepCounts {
 }
 
 impl Kind {
-    /// What stands for the number that is read, where it is altered, behind so many answers in the
-    /// step.
+    /// What is given in place of the number that is read, if it is altered. `so_far` counts the
+    /// answers before in the step.
     pub(crate) fn read(&self, so_far: StepCounts, honest: u64) -> Option<u64>
         ensures { result ≡ fault self.now so_far (Value honest) }
     {
@@ -114,7 +113,7 @@ impl Kind {
         }
     }
 
-    /// What stands for the number that is stored, where it is altered.
+    /// What is given in place of the number that is stored, if it is altered.
     pub(crate) fn written(&self, honest: u64) -> Option<u64>
         ensures { (so_far : StepCounts) → result ≡ fault self.now so_far (Written honest) }
     {
@@ -124,7 +123,7 @@ impl Kind {
         }
     }
 
-    /// What stands for the outcome of the comparison, where it is altered.
+    /// What is given in place of the outcome of the comparison, if it is altered.
     pub(crate) fn test(&self, honest: bool) -> Option<bool>
         ensures { (so_far : StepCounts) → result ≡ fault self.now so_far (Test honest) }
     {
@@ -134,7 +133,7 @@ impl Kind {
         }
     }
 
-    /// How often the act is done, where that is altered.
+    /// How often the act is done, if that is altered.
     pub(crate) fn times(&self) -> Option<Times>
         ensures { (so_far : StepCounts) (site : Site) → result ≡ fault self.now so_far (Often site) }
     {
@@ -145,7 +144,7 @@ impl Kind {
         }
     }
 
-    /// Where the traversal goes on, where that is altered.
+    /// Where the traversal goes on, if that is altered.
     pub(crate) fn next(&self, honest: Place) -> Option<Place>
         ensures { (so_far : StepCounts) → result ≡ fault self.now so_far (Goes honest) }
     {

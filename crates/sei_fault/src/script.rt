@@ -13,7 +13,7 @@ use super::plan::StepCounts;
 use super::{Act, Core, Place, Planned, Single, Site, Times};
 use std::marker::Model;
 
-/// Where a plan stands in its traversal.
+/// The stage of a plan in its traversal.
 #[derive(Clone, Copy)]
 enum Stage {
     /// The step that it fits has not come yet.
@@ -30,13 +30,13 @@ enum Stage {
 }
 
 /// The core that carries out one planned fault, or none. The plan is armed for the first step that
-/// it fits, and strikes there, at most once; all other answers are honest. The core tells that one
-/// strike can fall until its plan has struck, and none from then on; so without a plan it always
-/// tells one.
+/// it fits, and strikes there, at most once. All other answers are honest. The core tells that one
+/// strike can come until its plan has struck, and none from then on. Without a plan it always tells
+/// one.
 ///
-/// A question is a tick: one sum, and one test for 0. Only if the ticks turn to 0, a cold method
-/// looks at the plan and answers. While the plan's step is made, the ticks stand at their last
-/// value, so each question of that step turns them.
+/// Each question adds one to `ticks`. Only if that gives 0, a separate method looks at the plan and
+/// answers. While the plan's step is made, `ticks` is kept at its last value, so each question of
+/// that step gives 0.
 #[derive(Drop)]
 pub struct ScriptCore {
     /// The questions that `count` does not have. While the plan's step is made it has them all.
@@ -47,7 +47,7 @@ pub struct ScriptCore {
     count: Count,
     /// The planned fault.
     plan: Option<Planned>,
-    /// Where the plan stands.
+    /// The stage of the plan.
     stage: Stage,
 }
 
@@ -63,8 +63,8 @@ impl Model for ScriptCore {
     ghost invariant = { λ core. (core.watching ≡ watches core.plan core.stage) × StandsAtEdge core.stage core.ticks };
 }
 
-/// Where a plan stands once the step at this site begins: it is armed where the site is the first
-/// that it fits, and the step in which it was armed is over.
+/// The stage of a plan once the step at this site begins. The plan is armed if the site is the
+/// first that it fits, and the step in which it was armed is over.
 fn begun(plan: Option<Planned>, stage: Stage, site: Site) -> Stage
     ensures { result ≡ begun plan stage site }
 {
@@ -106,8 +106,8 @@ fn watches(plan: Option<Planned>, stage: Stage) -> bool
     }
 }
 
-/// Puts ticks that turned to 0 back to their last value. It is a cold call, since a store in its
-/// place would cost every tick.
+/// Puts ticks that became 0 back to their last value. It is a cold call, since a store in its place
+/// would cost every tick.
 #[cold]
 #[inline(never)]
 fn put_back(ticks: &mut u64)
@@ -130,7 +130,7 @@ impl ScriptCore {
         }
     }
 
-    /// Counts one question by a tick, and answers that it did. Or the ticks stand at their last
+    /// Counts one question by a tick, and answers that it did. Or the ticks are at their last
     /// value: then nothing changes, and the question is still to be counted.
     #[inline(always)]
     fn tick(&mut self) -> bool
@@ -178,7 +178,7 @@ impl ScriptCore {
         }
     }
 
-    /// Notes that the plan has struck, where it altered an answer.
+    /// Notes that the plan has struck, if it altered an answer.
     fn settle(&mut self, is_altered: bool)
         ensures { self.new ≡ record self.old { stage = settled self.old.stage is_altered } }
     {
@@ -198,7 +198,7 @@ impl ScriptCore {
         }
     }
 
-    /// What is answered where a number is read, if the plan alters that.
+    /// What is answered when a number is read, if the plan alters that.
     fn read_fault(&self, honest: u64) -> Option<u64>
         ensures { result ≡ altered_in self.now.plan self.now.stage (Value honest) }
     {
@@ -208,7 +208,7 @@ impl ScriptCore {
         }
     }
 
-    /// What is answered where a number is stored, if the plan alters that.
+    /// What is answered when a number is stored, if the plan alters that.
     fn written_fault(&self, honest: u64) -> Option<u64>
         ensures { result ≡ altered_in self.now.plan self.now.stage (Written honest) }
     {

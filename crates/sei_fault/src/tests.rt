@@ -1,4 +1,4 @@
-//! The plain core under each of its questions, and the ends of the row of phases.
+//! The plain core under each of its questions, and the first and last phase.
 use super::*;
 
 #[test]

@@ -1,6 +1,5 @@
-//! The gate that counts which phases of a traversal are closed. A phase that is closed out of its
-//! turn, or twice, finds the gate at another number, and this is how lost and repeated steps are
-//! noticed.
+//! The gate that counts which phases of a traversal are closed. If a phase is closed out of its
+//! turn, or twice, the gate has another number. In this way lost and repeated steps are noticed.
 #![tactic(auto)]
 
 mod gate;

@@ -1,4 +1,4 @@
-//! A gate at its ends. That a phase out of its turn is refused is a clause of `complete`.
+//! A gate at its first and last numbers.
 use super::*;
 use sei_fault::{Phase, PlainCore};
 use std::test::Fail;

@@ -1,6 +1,5 @@
 //! What a pass notes: each word that it changed, in order, and the answers of its questions about
-//! time and slots. A pass that must be undone is undone by its log, and two passes are compared by
-//! theirs.
+//! time and slots. A pass is undone by its log, and two passes are compared by their logs.
 #![tactic(auto)]
 
 mod log;

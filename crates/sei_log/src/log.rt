@@ -10,7 +10,7 @@ use std::marker::Model;
 /// One word that was changed.
 #[derive(Clone, Copy, Debug, PartialEq, Eq)]
 pub struct Change {
-    /// Where the word stands.
+    /// The address of the word.
     pub address: u64,
     /// The word before the change.
     pub was: u64,
@@ -18,7 +18,7 @@ pub struct Change {
     pub becomes: u64,
 }
 
-/// The entry of the cells that hold no change.
+/// The entry in the cells that hold no change.
 const BLANK: Change = Change {
     address: 0,
     was: 0,
@@ -41,7 +41,7 @@ impl Model for WriteLog {
 }
 
 impl WriteLog {
-    /// An empty log with room for `room` changes. Nothing is allocated afterwards.
+    /// An empty log with room for `room` changes.
     pub fn new(alloc: Global, room: usize) -> Result<WriteLog, Memory>
         ensures { IfOk result (λ log. log ≡ empty_kept Change room) }
     {
@@ -50,7 +50,7 @@ impl WriteLog {
         })
     }
 
-    /// Whether one change more goes in.
+    /// Whether one more change fits.
     pub fn has_room(&self) -> bool
         ensures answer { result ≡ has_room self.now }
         ensures within { length self.now.items ≤ self.now.room }
@@ -58,7 +58,7 @@ impl WriteLog {
         self.changes.has_room()
     }
 
-    /// Puts the change at the end. False exactly where the log is full, which then stays as it is.
+    /// Appends the change. False exactly if the log is full; then nothing has changed.
     pub fn push(&mut self, c: Change) -> bool
         ensures answer { result ≡ has_room self.old }
         ensures full { result ≡ false ↔ length self.old.items ≡ self.old.room }
@@ -67,7 +67,7 @@ impl WriteLog {
         self.changes.push(c)
     }
 
-    /// The change at `i`, counted from 0, or `None` where there are no more than `i`.
+    /// The change at `i`, counted from 0, or `None` if there are no more than `i` changes.
     pub fn get(&self, i: u64) -> Option<Change>
         ensures found { result ≡ slice_get self.now.items i }
         ensures below { IfSome result (λ _. i < 2 ^ 64 - 1) }
@@ -82,7 +82,7 @@ impl WriteLog {
         self.changes.len() as u64
     }
 
-    /// Takes all changes out, and keeps the room.
+    /// Removes all changes, and keeps the room.
     pub fn clear(&mut self)
         ensures { self.new ≡ emptied self.old }
     {

@@ -1,8 +1,7 @@
 //! The recorded answers of a pass.
 use sei_code::Coded;
 
-/// The answers that the first pass was given, each beside its check, so that the second goes by
-/// the same.
+/// The answers that the first pass got, each with its check. The second pass reads the same ones.
 #[derive(Clone, Copy, Debug, PartialEq, Eq)]
 pub struct Notes {
     /// What time it is, once that was asked.

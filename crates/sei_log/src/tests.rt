@@ -1,4 +1,4 @@
-//! Logs at their ends.
+//! Logs that are empty or full.
 use super::*;
 use std::test::Fail;
 

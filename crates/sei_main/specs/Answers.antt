@@ -103,6 +103,10 @@ IsDecided reading Memory = ⊤
 IsDecided (Reads script) status = status ≡ end_status (is_aborted script)
 IsDecided (Fails line why) status = status ≡ Script line why
 
+-- the same of what a source tells
+abbrev pub IsDecidedBy : Option (List ℕ) → Status → Type 0
+IsDecidedBy text status = IfSome text (λ input. IsDecided (reading_in input) status)
+
 -- the answers to a text that fails at a line
 abbrev pub Refused : Option (List ℕ) → Option (List ℕ) → ℕ → Why → Status → Type 0
 Refused old new line why status = StatusSays false (Fails line why) old new status

@@ -4,7 +4,7 @@ ghost use Rattle.std.specs.IoError.{error_kind};
 
 use std::io::{Error, ErrorKind};
 
-/// The words behind the first, which is the program's name.
+/// The words after the first, which is the program's name.
 pub fn after_the_name(all: Vec<String>) -> Vec<String>
     ensures { result.items ≡ drop 1 all.items }
 {
@@ -15,7 +15,7 @@ pub fn after_the_name(all: Vec<String>) -> Vec<String>
     words
 }
 
-/// Whether an error is want of memory.
+/// Whether an error is that memory ran out.
 pub fn is_out_of_memory(error: &Error) -> bool
     ensures { IsTrue result ↔ (error_kind error.now ≡ ErrorKind.OutOfMemory) }
 {

@@ -5,7 +5,7 @@ ghost use Rattle.sei_main.specs.Tables.{AreServerOf, fresh_tables};
 ghost use Rattle.sei_main.specs.TableAnswers.{table_answering};
 ghost use Rattle.sei_main.specs.Outcomes.{IsolatesFaults};
 
-/// A new server of words stands for the empty server. Where words stand for a server, a call does as the
+/// A new server of words stands for the empty server. If words stand for a server, a call does as the
 /// plain server does; or a fault that was planned for it struck, and it is refused with nothing changed,
 /// or aborts and has entered and sent nothing but what the plain server would.
 pub fn a_fault_stays_in_its_call()

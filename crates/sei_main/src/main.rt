@@ -21,7 +21,7 @@ use std::process::ExitCode;
 use std::rt::Env;
 use std::{env, io};
 
-/// The words of the command line behind the program's name.
+/// The words of the command line after the program's name.
 fn words_of(rt: &HostRuntime) -> io::Result<Vec<String>> {
     let all = env::args(rt)?.collect(rt.alloc())?;
     Ok(after_the_name(all))

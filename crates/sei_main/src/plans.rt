@@ -33,7 +33,7 @@ impl Model for Plans {
 }
 
 impl Plans {
-    /// The faults that the lines of a script plan, wherever they stand. The error is want of memory.
+    /// The faults that the lines of a script plan, wherever they stand. The error is that memory ran out.
     pub fn of(alloc: Global, script: &Script) -> Result<Plans, Memory>
         ensures { IfOk result (λ plans. plans ≡ plans_of script.now) }
     {

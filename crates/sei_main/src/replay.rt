@@ -1,3 +1,4 @@
+//! The top call that runs a script and writes its report, with the headline.
 ghost use Rattle.std.specs.Prelude.{◌≡◌, ◌≢◌, ◌+◌, ◌<◌, ◌≤◌, IfSome, IfOk, OnOk, true};
 ghost use Rattle.std.specs.Io.KnownBytes.{IsAtEnd, append_known};
 ghost use Rattle.sei_outside.specs.Faults.{Rose};
@@ -12,7 +13,7 @@ ghost use Rattle.sei_main.specs.Run.{run_by, run_of};
 ghost use Rattle.sei_main.specs.Serving.{step_by};
 ghost use Rattle.sei_main.specs.Report.{report_of};
 ghost use Rattle.sei_main.specs.Headline.{IsLegalRun, IsNumberedRun, SendsRepliesRun, NothingAfterAbortRun, OnlyStruckAbortsRun, WhenQuiet, IsPlain, PlansFault, AnswersAllRun};
-ghost use Rattle.sei_main.specs.Answers.{StatusSays, OnInput, IfScript, WrotePlainPart, HasRun, IsReplayStatus, Refused, IsDecided, reading_in};
+ghost use Rattle.sei_main.specs.Answers.{StatusSays, OnInput, IfScript, WrotePlainPart, HasRun, IsReplayStatus, Refused, IsDecidedBy, reading_in};
 
 use crate::plans::Plans;
 use crate::report::write_closing;
@@ -170,7 +171,7 @@ pub fn replay<S: Source, K: Sink>(
     ensures write_later { K.faults sink.old ≤ K.faults sink.new }
     // Where no fault comes, the script alone decides between Ok, Aborted and its first bad line, want of memory aside.
     ensures complete { ¬ Rose (S.faults source.old) (S.faults source.new) → ¬ Rose (K.faults sink.old) (K.faults sink.new)
-        → IfSome (S.left source.old) (λ input. IsDecided (reading_in input) result) }
+        → IsDecidedBy (S.left source.old) result }
 
     // Whatever faults are planned: the entries of a run are one legal history of a memcached of one thread,
     ensures legal { HasRun result → OnInput (S.left source.old) IsLegalRun }

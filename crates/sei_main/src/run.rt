@@ -1,10 +1,11 @@
+//! The top call of the program: the command line, and the replay that it asks for.
 ghost use Rattle.std.specs.Prelude.{◌≡◌, ◌+◌, ◌<◌, ◌≤◌, true, false, IfSome, map, string_bytes};
 ghost use Rattle.std.specs.Io.KnownBytes.{IsAtEnd};
 ghost use Rattle.sei_outside.specs.Faults.{Rose};
 ghost use Rattle.sei_outside.specs.Reads.{TookAtMost};
 ghost use Rattle.sei_script.specs.Limits.{script_limit};
 ghost use Rattle.sei_main.specs.Headline.{IsLegalRun, IsNumberedRun, SendsRepliesRun, NothingAfterAbortRun, OnlyStruckAbortsRun, WhenQuiet, IsPlain, PlansFault, AnswersAllRun};
-ghost use Rattle.sei_main.specs.Answers.{StatusSays, OnInput, IfScript, WrotePlainPart, HasRun, IsDecided, IsReplayStatus, reading_in};
+ghost use Rattle.sei_main.specs.Answers.{StatusSays, OnInput, IfScript, WrotePlainPart, HasRun, IsDecidedBy, IsReplayStatus, reading_in};
 ghost use Rattle.sei_main.specs.Forms.{is_replay, UsageWritten};
 
 use crate::replay::replay;
@@ -13,7 +14,7 @@ use sei_outside::{Sink, Source};
 use sei_script::{Stop, write_text};
 use std::alloc::Global;
 
-/// The line that is written where the words are no form.
+/// The line that is written if the words are no form.
 const USAGE: &[u8] =
     b"usage: replay [history] | trial <number> <connections> <requests> <faults> | serve <buckets> <slots> <value words> <workers> <journal bytes>\n";
 
@@ -62,7 +63,7 @@ pub fn run<S: Source, K: Sink>(
     ensures aborted_at_end { result ≡ Status.Aborted → IsAtEnd (S.left source.new) }
     ensures taken { is_replay (map string_bytes words.now) ≡ true → TookAtMost (script_limit + 1) (S.left source.old) (S.left source.new) }
     ensures complete { is_replay (map string_bytes words.now) ≡ true → ¬ Rose (S.faults source.old) (S.faults source.new) → ¬ Rose (K.faults sink.old) (K.faults sink.new)
-        → IfSome (S.left source.old) (λ input. IsDecided (reading_in input) result) }
+        → IsDecidedBy (S.left source.old) result }
     ensures legal { HasRun result → OnInput (S.left source.old) IsLegalRun }
     ensures numbered { HasRun result → OnInput (S.left source.old) IsNumberedRun }
     ensures sent { HasRun result → OnInput (S.left source.old) SendsRepliesRun }

@@ -1,3 +1,4 @@
+//! How the program ends, and the exit status of each end.
 ghost use Rattle.std.specs.Prelude.{◌≡◌};
 
 use sei_script::Why;
@@ -17,7 +18,7 @@ pub enum Status {
     ReadFault,
     /// A write to the sink failed.
     WriteFault,
-    /// Want of memory.
+    /// Memory ran out.
     Memory,
     /// A link could not be accepted.
     NetFault,

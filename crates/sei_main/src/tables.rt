@@ -41,7 +41,7 @@ fn fresh_buckets(alloc: Global, g: &Geometry) -> Result<Vec<Words>, Memory>
     Ok(buckets)
 }
 
-/// The bucket that is lent behind a step that wants this: one is from the want of `Take` to the want of
+/// The bucket that is lent after a step that wants this: one is from the want of `Take` to the want of
 /// `Give`.
 fn lent_behind(want: Want, lent: Option<u64>) -> Option<u64>
     ensures { result ≡ lent_behind want lent }
@@ -131,7 +131,7 @@ struct SoFar {
 }
 
 impl SoFar {
-    /// Of a call that begins, with so many bytes of room for its reply.
+    /// Of a call that begins, with n bytes of room for its reply.
     fn new(alloc: Global, room: usize) -> Result<SoFar, Memory>
         ensures served { IfOk result (λ so_far. served_in so_far ≡ unserved) }
         ensures room { IfOk result (HasRoom room) }
@@ -278,7 +278,7 @@ impl Model for TableServer {
 }
 
 impl TableServer {
-    /// A server that was asked nothing yet. The error is want of memory.
+    /// A server that was asked nothing yet. The error is that memory ran out.
     pub fn new(alloc: Global, geometry: Geometry) -> Result<TableServer, Memory>
         requires { IsValid geometry }
         ensures { IfOk result (λ server. server ≡ fresh_tables geometry) }

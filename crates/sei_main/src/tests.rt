@@ -1,3 +1,4 @@
+//! Scripts and their reports, from the protocol and from the fault model.
 mod cases;
 
 use crate::replay::replay;

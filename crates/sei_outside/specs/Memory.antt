@@ -1,4 +1,4 @@
--- A source and a sink in memory, as their users see them.
+-- The models of a source and a sink in memory.
 use Rattle.std.specs.Prelude.{ℕ, ◌+◌, List, [], ◌∷◌, Bool, ◌||◌, not, nat_le, length, min, if◌then◌else◌}
 use Rattle.sei_outside.specs.Plan.{Plan, is_due}
 use Rattle.sei_outside.specs.declared.source.Read.{Read}
@@ -9,12 +9,12 @@ pub record MemoryInput : Type 0 where
   pub left : List ℕ
   pub calls : Plan
 
--- what a source with these bytes left answers to a read of so many bytes that does not fail
+-- what a source with these bytes left answers to a read of at most `long` bytes that does not fail
 abbrev pub read_of : List ℕ → ℕ → Read
 read_of [] long = End
 read_of (b ∷ bs) long = Took (min (length (b ∷ bs)) long)
 
--- what the next read of so many bytes answers
+-- what the next read of at most `long` bytes answers
 abbrev pub next_read : MemoryInput → ℕ → Read
 next_read input long = if is_due input.calls then Failed else read_of input.left long
 

@@ -17,7 +17,7 @@ first_call failing = record { made = 0; faults = 0; failing = failing }
 abbrev pub is_due : Plan → Bool
 is_due plan = list_any (λ n. n == plan.made) plan.failing
 
--- one call more, and one fault more where it failed
+-- one call more, and one fault more if it failed
 abbrev pub after_call : Bool → Plan → Plan
 after_call failed plan = record {
   made = counted plan.made;

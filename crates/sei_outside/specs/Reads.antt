@@ -6,13 +6,13 @@ use Rattle.sei_outside.specs.Faults.{counted}
 use Rattle.sei_outside.specs.declared.source.Read.{Read}
 use Rattle.sei_outside.specs.declared.source.Read.TheVariants.{Took, End, Failed}
 
--- `into` is the piece after the read: what was taken stands at its front
+-- `into` is the piece after the read: what was taken is at its front
 abbrev pub ReadGives : Option (List ℕ) → Option (List ℕ) → List ℕ → Read → Type 0
 ReadGives old new into (Took n) = (0 < n) × (n ≤ length into) × (old ≡ prepend_known (take n into) new)
 ReadGives old new into End = (new ≡ old) × IsAtEnd old
 ReadGives old new into Failed = new ≡ old
 
--- at most so many bytes were taken off what the source had left, where it tells that
+-- at most this many bytes were taken off what the source had left, if it tells that
 pub record TookAtMost (most : ℕ) (old new : Option (List ℕ)) : Type 0 where
   pub part : List ℕ
   pub split : old ≡ prepend_known part new

@@ -5,7 +5,7 @@ ghost use Rattle.sei_outside.specs.Plan.{first_call, is_due, after_call};
 use std::marker::Model;
 
 /// Counts the calls of an object in memory and its faults. The calls whose numbers, from 0, are
-/// listed are to fail. Each count stays at the last value of a `u64` once it stands there.
+/// listed are to fail. At the last value of a `u64` a count does not change.
 #[derive(Drop)]
 pub struct Calls {
     made: u64,
@@ -47,7 +47,7 @@ impl Calls {
         self.failing.contains(&self.made)
     }
 
-    /// Counts one call, and one fault where it failed.
+    /// Counts one call, and one fault if it failed.
     pub fn count(&mut self, failed: bool)
         ensures counted { self.new ≡ after_call failed self.old }
         ensures later { self.old.faults ≤ self.new.faults }

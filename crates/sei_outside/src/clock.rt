@@ -1,4 +1,4 @@
-//! What time it is: a clock that is set by hand, and the system's.
+//! The time: a clock that is set by hand, and the system's clock.
 ghost use Rattle.std.specs.Prelude.{◌≡◌, ℕ, ◌<◌, ◌^◌, IfSome, Some, None};
 ghost use Rattle.std.specs.declared.option.Option.{Option};
 ghost use Rattle.sei_outside.specs.Seconds.{seconds_of};
@@ -6,9 +6,9 @@ ghost use Rattle.sei_outside.specs.Seconds.{seconds_of};
 use std::time::Duration;
 use std::{io, time};
 
-/// Tells the time. A clock has no fault: each answer is an answer, and it may go back.
+/// Tells the time. A clock has no faults, and its time may go back.
 pub trait Clock {
-    /// The next answer, where the clock tells it.
+    /// The next answer, if the clock tells it.
     ghost told: { Self → Option ℕ };
 
     /// The whole seconds since the start of 1970.
@@ -17,7 +17,7 @@ pub trait Clock {
         ensures below { IfSome (told self.now) (λ seconds. seconds < 2 ^ 64) };
 }
 
-/// A clock that stands at what it is set to.
+/// A clock whose time is set by hand.
 #[derive(Clone, Copy, Debug, PartialEq, Eq)]
 pub struct SetClock {
     /// The whole seconds since the start of 1970 that it answers.
@@ -32,14 +32,14 @@ impl Clock for SetClock {
     }
 }
 
-/// The clock of the system. It tells nothing beforehand.
+/// The clock of the system. It does not tell its answers beforehand.
 #[derive(Drop)]
 pub struct HostClock<C> {
     inner: C,
 }
 
 impl<C> HostClock<C> {
-    /// A clock over this one of std.
+    /// A clock over a clock of std.
     pub fn new(inner: C) -> HostClock<C>
         ensures { result.inner ≡ inner }
     {
@@ -60,7 +60,7 @@ fn seconds(answer: io::Result<Duration>) -> u64
 impl<C: time::Clock> Clock for HostClock<C> {
     ghost told = { λ _. None };
 
-    /// 0 if the system's clock can't be read, or stands before 1970.
+    /// 0 if the system's clock can't be read, or is before 1970.
     fn now(&self) -> u64 {
         seconds(self.inner.since_1970())
     }

@@ -1,6 +1,6 @@
-//! The outside: where bytes come from and where they go. Programs read from a `Source` and write
-//! to a `Sink`; a test hands in `MemorySource` and `MemorySink`, whose faults are planned, and a
-//! program hands in `StdSource` and `StdSink`.
+//! Input, output and the time. Programs read from a `Source` and write to a `Sink`. A test passes
+//! `MemorySource` and `MemorySink`, whose faults are planned. A program passes `StdSource` and
+//! `StdSink`.
 #![tactic(auto)]
 
 mod calls;

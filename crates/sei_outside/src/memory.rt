@@ -1,5 +1,4 @@
-//! A source and a sink in memory, whose faults are planned. The planned calls fail, and a call
-//! that fails gives, takes and appends nothing.
+//! A source and a sink in memory, whose faults are planned.
 ghost use Rattle.std.specs.Prelude.{◌≡◌, ◌≢◌, ◌<◌, ◌≤◌, ◌++◌, IfOk, Some, [], drop, length, take, if◌then◌else◌};
 ghost use Rattle.sei_outside.specs.Faults.{Rose};
 ghost use Rattle.sei_outside.specs.Reads.{ReadGives, taken};
@@ -12,7 +11,8 @@ use super::{Read, Sink, Source, Wrote};
 use std::alloc::{AllocError, Global};
 use std::marker::Model;
 
-/// Gives the bytes that it was made with, each read as many as fit the piece.
+/// Gives the bytes that it was made with. Each read gives as many as fit into the piece, and a read
+/// that fails gives nothing.
 #[derive(Drop)]
 pub struct MemorySource {
     bytes: Vec<u8>,
@@ -59,7 +59,7 @@ impl Source for MemorySource {
 
     fn read(&mut self, into: &mut [u8]) -> Read
         requires { 0 < length into.old }
-        // Beside the trait's clauses: exactly which answer, which bytes and which counts.
+        // More than the trait says: the exact answer, bytes and counts.
         ensures answer { result ≡ next_read self.old (length into.old) }
         ensures given { into.new ≡ take (taken result) self.old.left
             ++ drop (taken result) into.old }
@@ -87,8 +87,8 @@ impl Source for MemorySource {
     }
 }
 
-/// Keeps what is written to it. Its room, a number of bytes, is fixed when it is made: a write
-/// that would exceed it fails. No write takes memory.
+/// Keeps what is written to it. Its room, a number of bytes, is fixed when it is made. A write that
+/// would exceed it fails, and a write that fails appends nothing. No write takes memory.
 #[derive(Drop)]
 pub struct MemorySink {
     bytes: Vec<u8>,
@@ -142,7 +142,7 @@ impl Sink for MemorySink {
     ghost faults = { λ sink. sink.calls.faults };
 
     fn write(&mut self, bytes: &[u8]) -> Wrote
-        // Beside the trait's clauses: exactly which answer, which bytes and which counts.
+        // More than the trait says: the exact answer, bytes and counts.
         ensures answer { result ≡
             (if fails_write self.old bytes.now then Wrote.Failed else Wrote.All) }
         ensures written { self.new.written ≡ (if fails_write self.old bytes.now

@@ -1,4 +1,4 @@
-//! Where bytes go.
+//! Where bytes are written to.
 ghost use Rattle.std.specs.Prelude.{◌≡◌, ℕ, ◌≤◌, List};
 ghost use Rattle.std.specs.declared.option.Option.{Option};
 ghost use Rattle.sei_outside.specs.Faults.{Rose};
@@ -13,16 +13,16 @@ pub enum Wrote {
     Failed,
 }
 
-/// Where bytes go.
+/// Where bytes are written to.
 pub trait Sink {
-    /// The bytes that were written so far, where the sink tells them. A sink that tells them goes
-    /// on telling them.
+    /// The bytes that were written so far, if the sink tells them. A sink that tells them goes on
+    /// telling them.
     ghost written: { Self → Option (List ℕ) };
 
-    /// How many writes failed. A count that stands at the last value of a `u64` stays there.
+    /// How many writes failed. At the last value of a `u64` the count does not change.
     ghost faults: { Self → ℕ };
 
-    /// Writes the bytes behind those that were written before.
+    /// Writes the bytes after those that were written before.
     fn write(&mut self, bytes: &[u8]) -> Wrote
         ensures bytes { WriteGives (written self.old) (written self.new) bytes.now result }
         ensures later { faults self.old ≤ faults self.new }

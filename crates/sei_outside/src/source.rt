@@ -1,4 +1,4 @@
-//! Where bytes come from.
+//! Where bytes are read from.
 ghost use Rattle.std.specs.Prelude.{◌≡◌, ◌≢◌, ℕ, ◌<◌, ◌≤◌, List, length};
 ghost use Rattle.std.specs.declared.option.Option.{Option};
 ghost use Rattle.sei_outside.specs.Faults.{Rose};
@@ -7,7 +7,7 @@ ghost use Rattle.sei_outside.specs.Reads.{ReadGives};
 /// What a read answers.
 #[derive(Clone, Copy, Debug, PartialEq, Eq)]
 pub enum Read {
-    /// So many bytes stand at the front of the piece: at least one, and at most its length.
+    /// This many bytes are at the front of the piece: at least one, and at most its length.
     Took(usize),
     /// No bytes are left.
     End,
@@ -15,13 +15,13 @@ pub enum Read {
     Failed,
 }
 
-/// Where bytes come from.
+/// Where bytes are read from.
 pub trait Source {
-    /// The bytes that are left, where the source tells them. A source that tells them goes on
-    /// telling them.
+    /// The bytes that are left, if the source tells them. A source that tells them goes on telling
+    /// them.
     ghost left: { Self → Option (List ℕ) };
 
-    /// How many reads failed. A count that stands at the last value of a `u64` stays there.
+    /// How many reads failed. At the last value of a `u64` the count does not change.
     ghost faults: { Self → ℕ };
 
     /// Takes bytes that are left into the front of a piece, which is not empty.

@@ -1,4 +1,4 @@
-//! The edge to std: a source over a reader and a sink over a writer. They tell nothing of content.
+//! A source over a reader of std, and a sink over a writer of std. They do not tell their bytes.
 ghost use Rattle.std.specs.Prelude.{◌≡◌, ◌≢◌, ◌<◌, ◌≤◌, None, length};
 ghost use Rattle.sei_outside.specs.Faults.{Rose};
 ghost use Rattle.sei_outside.specs.Reads.{ReadGives, faults_after_read};
@@ -36,7 +36,7 @@ impl<R: io::Read> Source for StdSource<R> {
 
     fn read(&mut self, into: &mut [u8]) -> Read
         requires { 0 < length into.old }
-        // Beside the trait's clauses: what the reader gives is handed on, its errors are counted.
+        // More than the trait says: what the reader gives is passed on, and its errors are counted.
         ensures reader { HandsOn (R.remaining (reader_of self.old))
             (R.remaining (reader_of self.new)) into.new result }
         ensures faults { read_faults self.new ≡ faults_after_read result (read_faults self.old) }
@@ -58,7 +58,8 @@ impl<R: io::Read> Source for StdSource<R> {
     }
 }
 
-/// Writes to a writer of std, and has each write flushed. Each error of the writer is one fault.
+/// Writes to a writer of std, and flushes it after each write. Each error of the writer is one
+/// fault.
 #[derive(Drop)]
 pub struct StdSink<W> {
     inner: W,
@@ -77,11 +78,11 @@ impl<W> StdSink<W> {
     }
 }
 
-/// How many interrupted writes one write tries again.
+/// How often one write tries again after an interruption.
 const TRIES: u64 = u64::MAX;
 
-/// Hands on the bytes piece by piece, as many as the writer takes each time, up to its first error.
-/// An interrupted write took nothing, and is tried again.
+/// Passes the bytes on in pieces, as many as the writer takes each time, up to its first error. An
+/// interrupted write took nothing, and is tried again.
 fn write_pieces<W: io::Write>(writer: &mut W, bytes: &[u8]) -> Wrote
     ensures { HandsTo (W.contents writer.old) (W.contents writer.new) bytes.now result }
 {
@@ -123,7 +124,7 @@ impl<W: io::Write> Sink for StdSink<W> {
     ghost faults = { write_faults };
 
     fn write(&mut self, bytes: &[u8]) -> Wrote
-        // Beside the trait's clauses: the bytes are handed on, and the writer's errors are counted.
+        // More than the trait says: the bytes are passed on, and the writer's errors are counted.
         ensures writer { HandsTo (W.contents (writer_of self.old))
             (W.contents (writer_of self.new)) bytes.now result }
         ensures faults { write_faults self.new ≡ faults_after_write result (write_faults self.old) }

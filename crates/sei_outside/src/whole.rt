@@ -1,4 +1,4 @@
-//! Reading all there is, up to a limit.
+//! Reads all that a source has left, up to a limit.
 ghost use Rattle.std.specs.Prelude.{◌≡◌, ◌+◌, ◌<◌, ◌≤◌, IfOk, IfSome, length, vec_len};
 ghost use Rattle.std.specs.Io.KnownBytes.{IsAtEnd};
 ghost use Rattle.sei_outside.specs.Faults.{Rose};
@@ -14,7 +14,7 @@ pub enum Unread {
     TooBig,
     /// A read failed.
     Failed,
-    /// Want of memory for the bytes.
+    /// Out of memory for the bytes.
     Memory,
 }
 

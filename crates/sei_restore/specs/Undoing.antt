@@ -1,4 +1,4 @@
--- How a change is undone, and which words are left when all changes of a log are.
+-- How a change is undone, and which words are left after all changes of a log are.
 use Rattle.std.specs.Prelude.{◌≡◌, ℕ, zero, suc, ◌-◌, length, List, [], ◌∷◌, Option, Some, None, slice_get, slice_set}
 use Rattle.std.specs.declared.result.Result.{Result}
 use Rattle.std.specs.declared.result.Result.TheVariants.{Ok, Err}
@@ -22,12 +22,12 @@ undo_word words a was (Some word) = Ask (Written was) (λ w. Done (record { word
 abbrev pub undo_tree : List ℕ → Change → Tree Undone
 undo_tree words c = Ask (Value c.address) (λ a. Ask (Value c.was) (λ was. undo_word words a was (slice_get words a)))
 
--- undoing the change at a place of a log; where there is none, nothing is asked
+-- undoing the change at a place of a log; if there is none, nothing is asked
 abbrev pub undo_at : List ℕ → Option Change → Tree Undone
 undo_at words None = Done (record { words = words; cause = None })
 undo_at words (Some c) = undo_tree words c
 
--- undoing the change that stands n places before the last one
+-- undoing the change n places before the last one
 abbrev pub undo_nth : List Change → ℕ → List ℕ → Tree Undone
 undo_nth log n words = undo_at words (slice_get log (length log - 1 - n))
 
@@ -35,12 +35,12 @@ abbrev pub undone_of : List ℕ → Result (Unit {0}) AbortCause → Undone
 undone_of words (Ok u) = record { words = words; cause = None }
 undone_of words (Err cause) = record { words = words; cause = Some cause }
 
--- the changes, in their order, lead from these words to those, and each old word is the one that stood there
+-- the changes, in their order, lead from these words to those, and each old word is the one that was there
 abbrev pub LeadsTo : List ℕ → List Change → List ℕ → Type 0
 LeadsTo before [] after = after ≡ before
 LeadsTo before (c ∷ rest) after = (slice_get before c.address ≡ Some c.was) × LeadsTo (slice_set before c.address c.becomes) rest after
 
--- the words when, without a strike, the changes at the first n places are undone, counted from the last change
+-- the words after the changes at the last n places are undone without a strike, the last one first
 abbrev pub restored : List Change → List ℕ → ℕ → List ℕ
 restored log words zero = words
 restored log words (suc n) = (honest (undo_nth log n (restored log words n))).words

@@ -1,4 +1,4 @@
-//! Undoing the changes of a pass, from the last to the first.
+//! Undoes the changes of a pass, from the last to the first.
 #![tactic(auto)]
 
 mod laws;

@@ -1,4 +1,4 @@
-//! Undoing one change.
+//! Undoes one change.
 ghost use Rattle.std.specs.Prelude.{◌≡◌, ◌<◌, length};
 ghost use Rattle.sei_fault.specs.Tree.{Runs};
 ghost use Rattle.sei_words.specs.Exits.{lent_at, lent_left};
@@ -9,12 +9,12 @@ use sei_fault::{AbortCause, Core};
 use sei_log::{Change, WriteLog};
 use sei_words::{Lent, NoBucket, Words};
 
-/// Undoes the change that stands `i` places before the last one of the log: the word at its
-/// address, in the words that are lent, becomes its old word again. The core is asked for the
-/// address and the old word, and where a word stands at the address, for what is written.
+/// Undoes the change `i` places before the last one of the log: the word at its address, in the
+/// words that are lent, becomes its old word again. The core is asked for the address and the old
+/// word. If a word is at the address, the core is also asked for what is written.
 ///
-/// It is `Range` exactly where no bucket is lent, or the address that the core gave is outside of
-/// it, and then nothing has changed.
+/// It is `Range` exactly if no bucket is lent, or the address that the core gave is outside of it.
+/// Then nothing has changed.
 pub fn undo<K: Core>(
     log: &WriteLog,
     i: u64,
@@ -32,7 +32,7 @@ pub fn undo<K: Core>(
     }
 }
 
-/// The same, on what is lent.
+/// The same as `undo`, for any type of lent words.
 pub fn undo_on<L: Lent, K: Core>(
     log: &WriteLog,
     i: u64,

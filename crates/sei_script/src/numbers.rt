@@ -43,7 +43,7 @@ pub fn number(word: &[u8]) -> Option<u64>
     }
 }
 
-/// The number that a word spells, where it is a u64.
+/// The number that a word spells, if it is a u64.
 pub fn exact_number(word: &[u8]) -> Option<u64>
     ensures { result ≡ exact_of word.now }
 {

@@ -38,14 +38,14 @@ fn phase_of(word: &[u8]) -> Option<Phase>
     }
 }
 
-/// What selects the step of a planned fault, and what stands behind the space after it.
+/// What selects the step of a planned fault, and what stands after the space after it.
 #[derive(Clone, Copy)]
 struct Selected<'a> {
     select: Select,
     rest: Option<&'a [u8]>,
 }
 
-/// The step is selected so, and this stands behind it.
+/// The step is selected so, and this stands after it.
 fn selecting(select: Select, rest: Option<&[u8]>) -> Option<Selected<'_>>
     ensures { option_map (λ s. selected s.select (option_map (λ x. x.now) s.rest)) result ≡ Some (selected select (option_map (λ x. x.now) rest.entry)) }
 {
@@ -104,7 +104,7 @@ fn read_of(nth: Option<Numbered<'_>>) -> Option<Kind>
     })
 }
 
-/// A kind behind whose word nothing may stand.
+/// A kind after whose word nothing may stand.
 fn alone(rest: Option<&[u8]>, kind: Kind) -> Option<Kind>
     ensures { result ≡ alone (option_map (λ x. x.now) rest.entry) kind }
 {

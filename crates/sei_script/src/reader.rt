@@ -49,7 +49,7 @@ fn rest_from(text: &[u8], at: usize) -> &[u8]
     &text[at..]
 }
 
-/// The script of these lines, before what is left behind the last LF, which is the line with this number.
+/// The script of these lines, before what is left after the last LF, which is the line with this number.
 fn whole(
     lines: Vec<ScriptLine>,
     context: Context,

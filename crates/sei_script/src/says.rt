@@ -249,7 +249,7 @@ fn strip_carriage_return(line: &[u8]) -> &[u8]
     }
 }
 
-/// What a whole line says, behind these lines.
+/// What a whole line says, after these lines.
 pub fn line_says(alloc: Global, context: Context, line: &[u8]) -> Result<Said, AllocError>
     requires { context.opens ≤ most_connections }
     ensures { IfOk result (λ said. said ≡ line_says context line.now) }

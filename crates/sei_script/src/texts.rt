@@ -99,7 +99,7 @@ pub fn took_text(alloc: Global, c: u32, count: u64) -> Result<Vec<u8>, Memory>
     Ok(text)
 }
 
-/// The line of the bytes that no request took; nothing where there are none.
+/// The line of the bytes that no request took; nothing if there are none.
 pub fn left_text(alloc: Global, c: u32, left: usize) -> Result<Vec<u8>, Memory>
     ensures { IfOk result (λ text. text.items ≡ left_text c left) }
 {

@@ -41,7 +41,7 @@ impl Traversals {
         }
     }
 
-    /// What a line says, where a second fault of a traversal is wrong.
+    /// What a line says, if a second fault of a traversal is wrong.
     pub fn once(&self, said: Said) -> Said
         ensures { result ≡ once_by (holds self.now) said }
     {
@@ -52,7 +52,7 @@ impl Traversals {
         }
     }
 
-    /// This line is read too. The error is want of memory.
+    /// This line is read too. The error is that memory ran out.
     pub fn add(&mut self, line: &ScriptLine) -> Result<(), AllocError>
         ensures { OnOk result ((c : ℕ) (t : ℕ) → holds self.new c t ≡ (holds self.old c t || plans c t line.now)) }
     {

@@ -25,7 +25,7 @@ pub fn word_of(text: &[u8]) -> &[u8]
     }
 }
 
-/// What stands behind the first space.
+/// What stands after the first space.
 pub fn behind_word(text: &[u8]) -> Option<&[u8]>
     ensures { option_map (λ x. x.now) result ≡ behind_word text.now }
 {
@@ -35,7 +35,7 @@ pub fn behind_word(text: &[u8]) -> Option<&[u8]>
     }
 }
 
-/// The number that a text begins with, at most the last u64, and what stands behind the space after it.
+/// The number that a text begins with, at most the last u64, and what stands after the space after it.
 #[derive(Clone, Copy)]
 pub struct Numbered<'a> {
     pub number: u64,
@@ -63,7 +63,7 @@ pub fn first_exact(text: Option<&[u8]>) -> Option<Numbered<'_>>
     })
 }
 
-/// The number that a whole text spells, where it is a u64.
+/// The number that a whole text spells, if it is a u64.
 pub fn last_exact(text: Option<&[u8]>) -> Option<u64>
     ensures { result ≡ last_exact (option_map (λ x. x.now) text.entry) }
 {

@@ -46,7 +46,7 @@ pub struct Reporter {
 }
 
 impl Reporter {
-    /// The line of an entry, where the history is wanted.
+    /// The line of an entry, if the history is wanted.
     pub fn write_entry<K: Sink>(
         &self,
         sink: &mut K,
@@ -71,7 +71,7 @@ impl Reporter {
         }
     }
 
-    /// The line of a reply's message, where it has one.
+    /// The line of a reply's message, if it has one.
     pub fn write_message<K: Sink>(&self, sink: &mut K, c: u32, reply: &[u8]) -> Result<bool, Stop>
         ensures sent { IfOk result (λ sent. sent ≡ has_message reply.now) }
         ensures all { OnOk result (K.written sink.new ≡ append_known (K.written sink.old) (message_text c reply.now)) }

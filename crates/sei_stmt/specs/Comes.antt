@@ -1,4 +1,4 @@
--- Where a pass comes, whatever the time is that the clock will answer.
+-- What a pass comes to, at each time that the clock may answer.
 use Rattle.std.specs.Prelude.{◌≡◌, ℕ, ◌^◌, ◌<◌, true, Option, Some, None}
 use Rattle.sei_code.specs.Codes.{message_code}
 use Rattle.sei_code.specs.Coded.{sealed}
@@ -25,13 +25,13 @@ renoted notes m = with_notes m notes
 abbrev pub renoted_end : Notes → After → After
 renoted_end notes x = at_outcome (renoted notes x.machine) x.outcome
 
--- a time of 64 bits that the noted one doesn't speak against
+-- a time of 64 bits that agrees with the noted one, if one is noted
 abbrev pub Agrees : Option Coded → ℕ → Type 0
 Agrees None now = now < 2 ^ 64
 Agrees (Some note) now = (note ≡ sealed now) × (now < 2 ^ 64)
 
--- n honest statements of a first pass lead here and their questions weigh so much, at each time that the noted one doesn't speak
--- against
+-- at each time that agrees with the noted one, n honest statements of a first pass lead here, and their questions weigh
+-- this much
 pub record Comes (g : Setting) (start : Machine) (n : ℕ) (x : After) (questions : ℕ) : Type 0 where
   pub time : ℕ
   pub agrees : Agrees x.machine.notes.now time

@@ -31,12 +31,12 @@ abbrev pub asked_after : Setting → Machine → ℕ → ℕ
 asked_after g start zero = 0
 asked_after g start (suc n) = asked_after g start n + asked_in g (after g start n).machine (after g start n).outcome
 
--- an honest run: from this machine, so many honest steps end at Halt with that one
+-- an honest run: from this machine, `steps` honest steps end at Halt with that one
 pub record HonestRun (g : Setting) (start end : Machine) (steps : ℕ) : Type 0 where
   pub halts : after g start steps ≡ record { machine = end; outcome = Halted }
 
--- a pass that stands here behind n steps is on its way: where nothing struck since it began, n honest steps lead here,
--- and as many questions were counted as they ask
+-- a pass that is here after n steps is on its way. If nothing struck since it began, n honest steps lead here, and as
+-- many questions were counted as they ask
 pub record IsOnWay (g : Setting) (start : Machine) (n : ℕ) (x : After) (begin now : Counts) : Type 0 where
   pub later : begin.struck ≤ now.struck
   pub honest : now.struck ≡ begin.struck → after g start n ≡ x

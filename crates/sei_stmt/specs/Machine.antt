@@ -11,8 +11,8 @@ use Rattle.sei_fault.specs.Question.Question.{Written}
 use Rattle.sei_stmt.specs.declared.stmt.Stmt.{Stmt}
 use Rattle.sei_stmt.specs.Handling.{Parsed, refilled}
 
--- what a pass works on: its registers, lists and output code, how many statements it made, the words
--- of the bucket that is lent to it (none where no bucket is), its log, and the notes
+-- what a pass works on: its registers, its lists and its output code, and how many statements it made. The words of the
+-- bucket that is lent to it, or none if no bucket is. Its log, and the notes
 pub record Machine : Type 0 where
   pub registers : List ℕ
   pub input : Kept ℕ
@@ -24,14 +24,14 @@ pub record Machine : Type 0 where
   pub log : Kept Change
   pub notes : Notes
 
--- what stays through a statement
+-- what does not change in a statement
 pub record Setting : Type 0 where
   -- whether the noted answers are read, as in the second pass, or made, as in the first
   pub reading : Bool
   pub statements : List Stmt
   -- whether the code of the input is the sealed one
   pub intact : Bool
-  -- the sealed call of the input, where there is one
+  -- the sealed call of the input, if there is one
   pub parsed : Option Parsed
   -- the number of the message that is answered, and the bytes that output words stand for
   pub answer : ℕ
@@ -93,7 +93,7 @@ with_code m code = record m { code = Some code }
 abbrev pub one_made : Machine → Machine
 one_made m = record m { made = m.made + 1 }
 
--- another word at an address, and an entry more in the log, whatever it says
+-- another word at an address, and one more entry in the log, whatever its content
 abbrev pub stored : Machine → ℕ → Change → ℕ → Machine
 stored m address entry word = record m { words = slice_set m.words address word; log = pushed m.log entry }
 
@@ -109,7 +109,7 @@ with_log m log = record m { log = log }
 abbrev pub with_notes : Machine → Notes → Machine
 with_notes m notes = record m { notes = notes }
 
--- a time is noted, and a slot, whatever the notes say
+-- a time is noted, and a slot, whatever the notes contain
 abbrev pub note_time : Machine → Coded → Machine
 note_time m note = with_notes m (time_noted m.notes note)
 

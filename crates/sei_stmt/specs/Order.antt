@@ -1,5 +1,4 @@
--- In which order a pass may make its statements: one Parse before all of Input, Emit and Now; then one Now; then perhaps one
--- Alloc; then one Render, behind all Emits; and Halt behind it. The other statements may be made anywhere.
+-- The order in which a pass may make its statements.
 use Rattle.std.specs.Prelude.{ℕ, zero, suc, Bool, ◌&&◌, ◌==◌, nat_lt, Option, Some, None, slice_get, if◌then◌else◌}
 use Rattle.sei_stmt.specs.declared.stmt.Stmt.{Stmt}
 use Rattle.sei_stmt.specs.declared.stmt.Stmt.TheVariants.{Input, Emit, Now, Alloc, Parse, Render, Halt}
@@ -24,7 +23,7 @@ slotted = 3
 abbrev pub finished : ℕ
 finished = 4
 
--- input words are read behind Parse
+-- input words are read after Parse
 abbrev pub is_parsed : ℕ → Bool
 is_parsed stage = nat_lt unparsed stage
 
@@ -32,14 +31,16 @@ is_parsed stage = nat_lt unparsed stage
 abbrev pub is_open : ℕ → Bool
 is_open stage = nat_lt unparsed stage && nat_lt stage finished
 
--- output bytes are made once, behind Now
+-- output bytes are made once, after Now
 abbrev pub may_render : ℕ → Bool
 may_render stage = nat_lt parsed stage && nat_lt stage finished
 
 abbrev pub only : Bool → ℕ → Option ℕ
 only right stage = if right then Some stage else None
 
--- the stage behind a statement, where it may be made
+-- The stage after a statement, if it may be made. Parse comes once, before all of Input, Emit and Now. Now comes once
+-- after it, and then Alloc at most once. Render comes once, after Now and all Emits, and Halt after Render. The other
+-- statements may be made anywhere.
 abbrev pub stage_behind : ℕ → Stmt → Option ℕ
 stage_behind stage (Input to index) = only (is_parsed stage) stage
 stage_behind stage (Emit from) = only (is_open stage) stage
@@ -60,7 +61,7 @@ stage_onward g (Some stage) (Next i) = stage_behind_found stage (slice_get g.sta
 stage_onward g (Some stage) Halted = Some stage
 stage_onward g (Some stage) (Bad cause) = None
 
--- the stage of an honest run behind so many statements, where each might be made
+-- the stage of an honest run after n statements, if each might be made
 abbrev pub stage_after : Setting → Machine → ℕ → Option ℕ
 stage_after g start zero = Some unparsed
 stage_after g start (suc n) = stage_onward g (stage_after g start n) (after g start n).outcome

@@ -1,4 +1,4 @@
--- A pass that begins, and what it is given.
+-- The machine with which a pass begins, and what the pass is given.
 use Rattle.std.specs.Prelude.{◌≡◌, ℕ, Bool, true, false, List, Option, Some, None, replicate}
 use Rattle.sei_code.specs.Coded.{sealed}
 use Rattle.sei_code.specs.Kept.{empty_kept}

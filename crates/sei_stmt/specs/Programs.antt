@@ -1,5 +1,4 @@
--- Programs with structure, the statements that they stand for, and what is asked before one for a fact
--- to hold behind it.
+-- Programs with structure, the statements that they stand for, and which facts hold before and after them.
 use Rattle.std.specs.Prelude.{Bool, true, false, ◌&&◌, ◌≡◌, ◌≢◌, ◌⊎◌, ℕ, zero, suc, ◌+◌, ◌-◌, ◌%◌, ◌^◌, ◌<◌, ◌≤◌, List, [], ◌∷◌, ◌++◌, length, take, drop, Some, slice_get, ℤ, pos, negsuc}
 use Rattle.std.specs.List.{list_all}
 use Rattle.sei_stmt.specs.Table.{is_register, registers_fit}
@@ -70,8 +69,8 @@ is_straight (RepeatLt l r b) = (is_register l && is_register r) && is_straight b
 abbrev pub HasWord : List ℕ → ℕ → ℕ → Type 0
 HasWord words a v = slice_get words a ≡ Some v
 
--- The stages in which input words are read, output words made, and output bytes made. Each is `refl` at
--- a numeral, and as `ap is_open h` where h says which stage it is.
+-- The stages in which input words are read, output words made, and output bytes made. Each is `refl` at a numeral, and
+-- `ap is_open h` if h says which stage it is.
 
 abbrev pub IsParsed : ℕ → Type 0
 IsParsed stage = is_parsed stage ≡ true
@@ -82,13 +81,16 @@ IsOpen stage = is_open stage ≡ true
 abbrev pub MayRender : ℕ → Type 0
 MayRender stage = may_render stage ≡ true
 
--- a fact about the state behind a program
+-- a fact about the state after a program
 abbrev pub Post : Type 1
 Post = RunState → Type 0
 
--- what is asked before one statement for Q to hold behind it, in this order: the stage, the value that it
--- computes or reads, which the proof names, the room, and Q of the next state. Stores rise in their
--- addresses. Jumps and Halt stand in no block
+-- what must hold before one statement for Q to hold after it:
+-- - the stage,
+-- - the value that it computes or reads, which the proof names,
+-- - the room,
+-- - Q of the next state.
+-- The addresses of stores rise. Jumps and Halt are in no block
 abbrev pub Before : Given → Stmt → RunState → Post → Type 0
 Before e (Const to n) s Q = Q (write s to n)
 Before e (Move to from) s Q = Q (write s to (s.regs from))

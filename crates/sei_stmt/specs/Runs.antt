@@ -9,17 +9,17 @@ use Rattle.sei_stmt.specs.Order.{unparsed, parsed, timed, slotted, finished, is_
 use Rattle.sei_stmt.specs.declared.stmt.Stmt.{Stmt}
 use Rattle.sei_stmt.specs.declared.stmt.Stmt.TheVariants.{Const, Move, Add, Sub, Input, Load, Store, Emit, Jump, JumpEq, JumpLt, Now, Alloc, Parse, Render, Halt}
 
--- what stays through a run
+-- what does not change in a run
 pub record Given : Type 0 where
   -- the input words of the request
   pub input : List ℕ
-  -- the second that it is
+  -- the current second
   pub now : ℕ
   -- the slot that Alloc is answered, by the words and the moment
   pub slot : List ℕ → ℕ → ℕ
   -- whether that slot may be the answer, by the words, the moment and the slot
   pub is_fit : List ℕ → ℕ → ℕ → Bool
-  -- the output bytes of output words, and none where these are not of their form
+  -- the output bytes of output words, and none if the words do not have their form
   pub rendered : List ℕ → Option (List ℕ)
   -- the most output words, output bytes and logged changes that there may be
   pub out_room : ℕ
@@ -49,11 +49,11 @@ pub record RunState : Type 0 where
   -- how many statements were made
   pub steps : ℕ
 
--- the state in which a run begins. What the registers hold is left open
+-- the state in which a run begins. The contents of the registers are left open
 abbrev pub start : (ℕ → ℕ) → List ℕ → RunState
 start regs words = record { regs = regs; words = words; out = []; emitted = 0; bytes = []; changes = []; stores = 0; floor = 0; stage = unparsed; steps = 0 }
 
--- the counts are those of the lists. A store of the word that stands there already is counted and not logged
+-- the counts are those of the lists. A store of the word that is there already is counted and not logged
 abbrev pub Counted : RunState → Type 0
 Counted s = (s.emitted ≡ length s.out) × (length s.changes ≤ s.stores)
 
@@ -69,7 +69,7 @@ tick s = record s { steps = suc s.steps }
 abbrev pub write : RunState → (to v : ℕ) → RunState
 write s to v = record s { regs = put s.regs to v; steps = suc s.steps }
 
--- the log behind a store at `a` of v, where old stood. To store the same word is no change
+-- the log after a store at `a` of v, if old was there. To store the same word is no change
 unfoldable pub logged : List Change → (a old v : ℕ) → List Change
 logged changes a old v = if nat_eq old v then changes else changes ++ change_of a old v ∷ []
 
@@ -99,32 +99,32 @@ pub data Outcome : Type 0 where
   -- Halt was made
   Ended : (s : RunState) → Outcome
   Aborted : (cause : AbortCause) → Outcome
-  -- a statement stood where its stage is not: no run of a right table
+  -- a statement is made in a stage that is not its own: no run of a right table
   Misplaced : Outcome
   -- the answered slot may not be the answer: no honest run
   Unfit : (s : RunState) → Outcome
-  -- more statements are wanted than were allowed
+  -- more statements are needed than were allowed
   Unfinished : Outcome
 
 -- how the run goes on from a place in the table and a state
 abbrev pub Next : Type 0
 Next = ℕ → RunState → Outcome
 
--- goes on with the word at `a`, or ends where there is none
+-- goes on with the word at `a`, or ends if there is none
 abbrev pub with_word : Option ℕ → (a : ℕ) → (ℕ → Outcome) → Outcome
 with_word None a go = Aborted (Range a)
 with_word (Some v) a go = go v
 
--- goes on with the output bytes, or ends where the words were not of their form or the bytes are too many
+-- goes on with the output bytes, or ends if the words do not have their form or the bytes are too many
 abbrev pub with_bytes : Option (List ℕ) → (room : ℕ) → (List ℕ → Outcome) → Outcome
 with_bytes None room go = Aborted Output
 with_bytes (Some bytes) room go = if nat_le (length bytes) room then go bytes else Aborted OutFull
 
--- goes on where the word stays as it was, or where the log takes one change more
+-- goes on if the word stays as it was, or if the log takes one change more
 abbrev pub if_logged : (old v : ℕ) → (has_room : Bool) → Outcome → Outcome
 if_logged old v has_room go = if nat_eq old v then go else if has_room then go else Aborted LogFull
 
--- goes on where the statement stands in its stage
+-- goes on if the statement is in its stage
 abbrev pub in_stage : Bool → Outcome → Outcome
 in_stage right go = if right then go else Misplaced
 

@@ -1,4 +1,4 @@
--- What is asked of a handler: each honest run of its table, in the first pass and in the second, ends well.
+-- When a handler is sound: each honest run of its table, in the first pass and in the second, ends well.
 use Rattle.std.specs.Prelude.{◌≡◌, ℕ, ◌+◌, ◌^◌, ◌<◌, ◌≤◌, true, List, [], ◌∷◌, Some, All, slice_get}
 use Rattle.sei_code.specs.Codes.{message_code}
 use Rattle.sei_log.specs.declared.log.Change.{Change}
@@ -17,8 +17,8 @@ abbrev pub RisesFrom : ℕ → List Change → Type 0
 RisesFrom lo [] = Unit {0}
 RisesFrom lo (c ∷ cs) = (lo ≤ c.address) × RisesFrom (c.address + 1) cs
 
--- the run halts within its budget, made its statements in their order, changed words in rising order,
--- and left words that hold what they should, and the reply with its code
+-- the run halts within its budget, made its statements in their order, and changed words in rising order. It left words
+-- that hold what they should, and the reply with its code
 pub record EndsWell (g : Setting) (Held : List ℕ → Type 0) (reply : List ℕ) (start end : Machine) (steps : ℕ) : Type 0 where
   pub run : HonestRun g start end steps
   pub within : steps < g.budget
@@ -33,9 +33,9 @@ pub data Serves (g : Setting) (Held : List ℕ → Type 0) (reply : List ℕ) (s
   Well : (end : Machine) (steps : ℕ) → EndsWell g Held reply start end steps → Serves g Held reply start
   Unfit : g.reading ≡ true → (m : Machine) (n : ℕ) → after g start n ≡ record { machine = m; outcome = Bad Notes } → Serves g Held reply start
 
--- A handler is sound for the space of each call, an input and a number, and for two relations of words to a B. From words on which
--- a run for B starts (Before), each pass of a call in its space leads to words that stand for what the answer leaves (Stands), with
--- the answer's reply.
+-- A handler is sound for the space of each call, an input and a number, and for two relations of words to a B. On words
+-- of the first one (Before) a run for B starts. Each pass of a call in its space then leads to words that stand for
+-- what the answer makes of B (Stands), with the answer's reply.
 pub record IsSound {B : Type 0} (h : Behavior) (space : List ℕ → ℕ → Space)
     (Before Stands : List ℕ → B → Type 0) (answer : List ℕ → ℕ → B → ℕ → B × List ℕ) : Type 0 where
   pub serves : (input : List ℕ) → All (λ b. b < 256) input → (nth : ℕ) (p : Parsed) → h.parsed input nth ≡ Some p →
@@ -43,8 +43,8 @@ pub record IsSound {B : Type 0} (h : Behavior) (space : List ℕ → ℕ → Spa
       (words : List ℕ) (b : B) → Before words b → (now : ℕ) → now < 2 ^ 64 → (notes : noting.Notes) → IsTold g now notes →
       Serves g (λ ws. Stands ws (answer input nth b now).0) (answer input nth b now).1 (beginning (space input nth).rooms words notes)
 
--- a handler is sound for so many buckets too: its table parses first, and its calls of each input are those whose numbers
--- are below their number, each for a bucket that is there
+-- a handler is sound for this many buckets too. Its table parses first. Its calls of each input are those with a number
+-- below their count, each for a bucket that is there
 pub record IsSoundHandler {B : Type 0} (h : Behavior)
     (space : List ℕ → ℕ → Space) (buckets : ℕ) (Before Stands : List ℕ → B → Type 0) (answer : List ℕ → ℕ → B → ℕ → B × List ℕ) : Type 0 where
   pub sound : IsSound h space Before Stands answer

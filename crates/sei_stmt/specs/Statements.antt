@@ -1,4 +1,4 @@
--- What each statement does, as the questions that it asks a core, in order, and what it makes of the answers.
+-- What each statement does: the questions that it asks a core, in order, and what it does with the answers.
 use Rattle.std.specs.Prelude.{ℕ, ◌+◌, ◌-◌, ◌%◌, ◌^◌, Bool, false, ◌==◌, nat_lt, nat_le, List, [], ◌∷◌, ◌++◌, length, Option, Some, None, is_some, slice_get, if◌then◌else◌}
 use Rattle.sei_code.specs.Codes.{message_code}
 use Rattle.sei_code.specs.Coded.{sealed, read_of}
@@ -88,7 +88,7 @@ abbrev pub less_tree : ℕ → Machine → ℕ → ℕ → ℕ → Tree After
 less_tree i m left right to =
     Ask (Value (register m left)) (λ a. Ask (Value (register m right)) (λ b. Ask (Test (nat_lt a b)) (λ goes. go_if goes i m to)))
 
--- the time: the first pass asks the clock and notes its answer, the second goes by the note
+-- the time: the first pass asks the clock and notes its answer, the second reads the note
 
 abbrev pub noted_value : ℕ → Machine → ℕ → Option ℕ → Tree After
 noted_value i m to None = ends m (Bad Code)
@@ -130,8 +130,8 @@ alloc_by reading g i m to moment =
 abbrev pub alloc_tree : Setting → ℕ → Machine → ℕ → ℕ → Tree After
 alloc_tree g i m to moment = Ask (Value (register m moment)) (λ t. alloc_by g.reading g i m to t)
 
--- the input: its code is tested, and behind that test its call fills the input words; then it is tested that there is such
--- a call, and that its bucket is lent; last the first input word is stored through the core
+-- the input: its code is tested, and after that test its call fills the input words. Then it is tested that there is
+-- such a call, and that its bucket is lent. Last the first input word is stored through the core
 
 -- a bucket is lent, and is the call's
 abbrev pub is_lent : Option ℕ → Option Parsed → Bool
@@ -139,7 +139,7 @@ is_lent None call = false
 is_lent (Some bucket) None = false
 is_lent (Some bucket) (Some call) = bucket == call.bucket
 
--- the input words stand there; the first of them, if there is one, is stored anew
+-- the input words are there; the first of them, if there is one, is stored again
 abbrev pub parse_first : ℕ → Machine → List ℕ → Tree After
 parse_first i m [] = ends m (Next (i + 1))
 parse_first i m (word ∷ words) = Ask (Written word) (λ w. ends (with_input m (w ∷ words)) (Next (i + 1)))

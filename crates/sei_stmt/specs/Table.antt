@@ -57,7 +57,7 @@ abbrev pub IsTarget : ℕ → ℤ → Type 0
 IsTarget i (pos n) = ⊤
 IsTarget i (negsuc n) = n ≤ i
 
--- a jump at index i goes to one of so many statements
+-- a jump at index i goes to one of n statements
 abbrev pub is_inside : ℕ → ℕ → ℤ → Bool
 is_inside count i (pos n) = nat_lt (i + 1 + n) count
 is_inside count i (negsuc n) = nat_le n i && nat_lt (i - n) count
@@ -67,7 +67,7 @@ pub record IsInside (count i : ℕ) (offset : ℤ) : Type 0 where
   pub not_before : IsTarget i offset
   pub below : target i offset < count
 
--- the statement at index i is no jump, or goes to one of so many statements
+-- the statement at index i is no jump, or goes to one of n statements
 abbrev pub jump_fits : ℕ → ℕ → Stmt → Bool
 jump_fits count i (Jump offset) = is_inside count i offset
 jump_fits count i (JumpEq left right offset) = is_inside count i offset
@@ -81,7 +81,7 @@ JumpsInside count i (JumpEq left right offset) = IsInside count i offset
 JumpsInside count i (JumpLt left right offset) = IsInside count i offset
 JumpsInside count i s = ⊤
 
--- among so many, the statement at index i has a next one, if it may go on to that
+-- of n statements, the one at index i has a next one, if it may go on to that
 abbrev pub HasNext : ℕ → ℕ → Stmt → Type 0
 HasNext count i (Jump offset) = ⊤
 HasNext count i Halt = ⊤

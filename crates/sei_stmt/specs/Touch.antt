@@ -1,4 +1,4 @@
--- What a program can change at most.
+-- The most that a program can change.
 use Rattle.std.specs.Prelude.{◌≡◌, ℕ, ◌+◌, ◌<◌, ◌≤◌, List, [], ◌∷◌, length, Bool, true, false, ◌&&◌, slice_index}
 use Rattle.sei_log.specs.declared.log.Change.{Change}
 use Rattle.sei_stmt.specs.declared.stmt.Stmt.{Stmt}
@@ -52,7 +52,7 @@ abbrev pub Rises : ℕ → List Change → ℕ → Type 0
 Rises lo [] n = lo ≤ n
 Rises lo (c ∷ cs) n = (lo ≤ c.address) × Rises (c.address + 1) cs n
 
--- how state t is that of s, behind a program that changes no more than w allows
+-- how state t may differ from state s, after a program that changes no more than w allows
 pub record Framed (w : Touch) (s t : RunState) : Type 0 where
   pub regs : (r : ℕ) → w.regs r ≡ false → t.regs r ≡ s.regs r
   pub words : w.words ≡ false → t.words ≡ s.words

@@ -21,7 +21,7 @@ weighed_after g start (suc n) = weighed_after g start n + weighed_in g (after g 
 abbrev pub making : Setting → Setting
 making g = record g { reading = false }
 
--- so many honest steps are made, and at each of its machines the questions are weighed that a first pass asks there
+-- n honest steps are made, and at each of its machines the questions are weighed that a first pass asks there
 abbrev pub first_weighed : Setting → Machine → ℕ → ℕ
 first_weighed g start zero = 0
 first_weighed g start (suc n) = first_weighed g start n + weighed_in (making g) (after g start n).machine (after g start n).outcome

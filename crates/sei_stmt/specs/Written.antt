@@ -1,4 +1,4 @@
--- The program that one put together in code stands for.
+-- The program that a program of the code stands for.
 use Rattle.sei_stmt.specs.Programs.{Prog, Block, Seq, IfEq, IfLt, RepeatLt}
 use Rattle.sei_stmt.specs.declared.program.Program.{Program}
 use Rattle.sei_stmt.specs.declared.program.Program.TheVariants as parts

@@ -26,7 +26,7 @@ impl Model for Fragment {
 }
 
 impl Fragment {
-    /// The statements of the program. The error is that memory ran out.
+    /// The statements of the program. The error is out of memory.
     pub fn of(alloc: Global, program: &Program) -> Result<Fragment, Memory>
         ensures { IfOk result (λ f. f ≡ flatten (prog_of program.now)) }
     {
@@ -35,8 +35,8 @@ impl Fragment {
     }
 }
 
-/// Puts the fragment's statements behind those that are there, and answers the index of the first
-/// of them. The error is want of memory, and then nothing has changed.
+/// Appends the fragment's statements to those that are there, and answers the index of the first of
+/// them. The error is out of memory; then nothing has changed.
 pub fn place(into: &mut Vec<Stmt>, f: &Fragment) -> Result<u64, Memory>
     ensures first { IfOk result (λ at. at ≡ vec_len into.old) }
     ensures placed { OnOk result (into.new.items ≡ into.old.items ++ f.now) }

@@ -1,4 +1,4 @@
-//! What runs over a table of statements serve.
+//! Handlers: a table of statements, with the reading of inputs and the making of outputs.
 ghost use Rattle.std.specs.Prelude.{◌≡◌, ℕ, ◌≤◌, List, Option, length};
 ghost use Rattle.sei_stmt.specs.Handling.{Behavior, parsed_words, parsed_bucket, refilled, rendered_as, rendered_bytes};
 ghost use Rattle.sei_stmt.specs.Passes.{Space};
@@ -6,21 +6,22 @@ ghost use Rattle.sei_stmt.specs.Passes.{Space};
 use crate::table::Table;
 use sei_code::{Buffer, Rendered, WordList};
 
-/// What serves by a table of statements, with the reading of its inputs and the making of its outputs.
+/// A service by a table of statements, with the reading of its inputs and the making of its
+/// outputs.
 pub trait Handler {
     /// What the handler does with its inputs and outputs.
     ghost behavior: { Self → Behavior };
 
-    /// How many calls the input has, or `None` exactly where it is not one whole request.
+    /// How many calls the input has, or `None` exactly if it is not one whole request.
     fn calls(&self, input: &[u8]) -> Option<u64>
         ensures { result ≡ (behavior self.now).calls input.now };
 
-    /// The bucket of call number `nth`, or `None` exactly where the input has no such call.
+    /// The bucket of call number `nth`, or `None` exactly if the input has no such call.
     fn bucket(&self, input: &[u8], nth: u64) -> Option<u64>
         ensures { result ≡ parsed_bucket ((behavior self.now).parsed input.now nth) };
 
     /// Fills `into`, which is emptied first, with the input words of call number `nth`. Answers the
-    /// bucket of the call, or `None` exactly where the input has no such call.
+    /// bucket of the call, or `None` exactly if the input has no such call.
     fn parse(&self, input: &[u8], nth: u64, into: &mut WordList) -> Option<u64>
         requires room { length (parsed_words ((behavior self.now).parsed input.now nth)) ≤ into.old.room }
         ensures answer { result ≡ parsed_bucket ((behavior self.now).parsed input.now nth) }
@@ -30,15 +31,15 @@ pub trait Handler {
     fn table(&self) -> &Table
         ensures { result.now ≡ (behavior self.now).statements };
 
-    /// Makes the bytes that the output words stand for. `into` is emptied first, and stays empty where
-    /// they are malformed or the bytes do not fit.
+    /// Makes the bytes that the output words stand for. `into` is emptied first, and stays empty if
+    /// the words are malformed or the bytes do not fit.
     fn render(&self, words: &[u64], into: &mut Buffer) -> Rendered
         ensures answer { result ≡ rendered_as ((behavior self.now).rendered words.now) into.old.room }
         ensures filled { into.new ≡ refilled into.old (rendered_bytes ((behavior self.now).rendered words.now) into.old.room) };
 }
 
-/// A handler with a model: the words of a bucket stand for its states, and a call does to a state what
-/// the answer does. The trait does not promise that; it is what `IsSoundHandler` says.
+/// A handler with a model: the words of a bucket stand for a state, and a call changes a state as
+/// the answer does. The trait does not promise that; `IsSoundHandler` says it.
 pub trait Modeled: Handler {
     /// The states of the model.
     ghost State: { Type 0 };
@@ -50,11 +51,11 @@ pub trait Modeled: Handler {
     /// Which words stand for which states.
     ghost stands: { Self → List ℕ → State → Type 0 };
 
-    /// What each pass of a call of an input has, by the call's number: its rooms, its budget, and the
-    /// free slots.
+    /// The rooms, the budget and the free slots of each pass of a call of an input, by the call's
+    /// number.
     ghost space: { Self → List ℕ → ℕ → Space };
 
-    /// The answer to a call of an input, by its number, in a state at a time: the state that it leaves,
+    /// The answer to a call of an input, by its number, in a state at a time: the state after it,
     /// and its reply.
     ghost answer: { Self → List ℕ → ℕ → State → ℕ → State × List ℕ };
 }

@@ -1,5 +1,5 @@
-//! Tables of statements: what each statement does, as the questions that it asks a core, which lists of
-//! statements are tables, and programs with structure that stand for tables.
+//! Tables of statements: what each statement does and asks a core, which lists of statements are
+//! tables, and programs with structure that stand for tables.
 #![tactic(auto)]
 
 mod fragment;

@@ -9,7 +9,7 @@ use sei_code::Memory;
 use std::alloc::{AllocError, Global};
 use std::marker::Model;
 
-/// Statements that are carried out one after the other. Its value is the list of them.
+/// Statements that are carried out one after another. Its value is the list of them.
 #[derive(Drop)]
 pub struct Statements {
     stmts: Vec<Stmt>,
@@ -53,7 +53,7 @@ pub enum Program {
     },
 }
 
-/// Each error is that memory ran out.
+/// Each error is out of memory.
 impl Program {
     /// These statements. No jump and no `Halt` is among them.
     pub fn block(alloc: Global, stmts: &[Stmt]) -> Result<Program, Memory>

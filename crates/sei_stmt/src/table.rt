@@ -170,7 +170,7 @@ impl Table {
         self.stmts.as_slice().len() as u64
     }
 
-    /// The statement at the index `i`, counted from 0, or `None` where there are no more than `i`.
+    /// The statement at the index `i`, counted from 0, or `None` if there are no more than `i`.
     pub fn get(&self, i: u64) -> Option<Stmt>
         ensures found { result ≡ slice_get self.now i }
         ensures fine { IfSome result (λ s. HasRegisters s) }

@@ -2,7 +2,7 @@
 use super::*;
 use std::test::Fail;
 
-/// Puts the sum of two constants out, where they differ.
+/// Puts out the sum of two constants, if they differ.
 const GOOD: [Stmt; 6] = [
     Stmt::Const { to: 0, number: 7 },
     Stmt::Const {

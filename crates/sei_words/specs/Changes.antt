@@ -1,4 +1,4 @@
--- What is stored in the words of a bucket by programs that change it, by what stays.
+-- How programs change the words of a bucket, by what was stored and what is as before.
 use Rattle.std.specs.Prelude.{◌≡◌, ◌≢◌, ◌⊎◌, ℕ, ◌+◌, ◌<◌, ◌≤◌, List, length, slice_index, Some, None}
 use Rattle.sei_code.specs.Codes.{fnv64}
 use Rattle.mc_model.specs.declared.geometry.Geometry.{Geometry}
@@ -15,7 +15,7 @@ pub record HasHead (words : List ℕ) (b : Bucket) : Type 0 where
   pub moment : slice_index words moment_address ≡ b.moment
   pub counter : slice_index words counter_address ≡ b.counter
 
--- words before the first slot alone were stored
+-- only words before the first slot were stored
 pub record HeadStored (ws t : List ℕ) : Type 0 where
   pub size : length t ≡ length ws
   pub off : (a : ℕ) → first_slot ≤ a → slice_index t a ≡ slice_index ws a
@@ -26,17 +26,17 @@ pub record Moved (ws t : List ℕ) (moment : ℕ) : Type 0 where
   pub first : slice_index t moment_address ≡ moment
   pub others : (a : ℕ) → a ≢ moment_address → slice_index t a ≡ slice_index ws a
 
--- words of slot i before its value alone were stored
+-- only words of slot i before its value were stored
 pub record OnlyFields (g : Geometry) (ws t : List ℕ) (i : ℕ) : Type 0 where
   pub size : length t ≡ length ws
   pub off : (a : ℕ) → (a < slot_at g i) ⊎ (slot_at g i + value_offset ≤ a) → slice_index t a ≡ slice_index ws a
 
--- words of slot i alone were stored, those of its value among them
+-- only words of slot i were stored, those of its value among them
 pub record OnlySlot (g : Geometry) (ws t : List ℕ) (i : ℕ) : Type 0 where
   pub size : length t ≡ length ws
   pub off : (a : ℕ) → (a < slot_at g i) ⊎ (slot_at g i + width g ≤ a) → slice_index t a ≡ slice_index ws a
 
--- the value of slot i was stored: its fields and the words before all slots stay
+-- the value of slot i was stored: all fields and the words before all slots stay, and so do the values of other taken slots
 pub record ValueStored (g : Geometry) (moment : ℕ) (ws t : List ℕ) (i : ℕ) (vs : List ℕ) : Type 0 where
   pub value : HasValue g t i vs
   pub others : OthersStay g moment ws t i
@@ -61,7 +61,7 @@ pub record HasFields (g : Geometry) (words : List ℕ) (i : ℕ) (k : List ℕ) 
   pub key_fits : words_for (length k) ≤ key_room
   pub key : StoredAt words (slot_at g i + key_offset) (pack k)
 
--- some words of slot i were stored, and not its hash, its key's length and its key
+-- some words of slot i were stored, but not its hash, its key's length or its key
 pub record KeepsKey (g : Geometry) (ws t : List ℕ) (i : ℕ) : Type 0 where
   pub hash : field g t i hash_offset ≡ field g ws i hash_offset
   pub key_length : field g t i key_length_offset ≡ field g ws i key_length_offset

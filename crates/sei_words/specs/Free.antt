@@ -3,7 +3,7 @@ use Rattle.std.specs.Prelude.{◌≡◌, ℕ, ◌<◌, Bool, true, false, not, �
 use Rattle.mc_model.specs.declared.geometry.Geometry.{Geometry}
 use Rattle.sei_words.specs.Layout.{field, used_offset, expiry_offset}
 
--- the item has expired: its expiry is not 0, which is none, and the moment has come to it
+-- the item has expired: its expiry is not 0, which is never, and the moment has reached it
 abbrev pub has_expired : ℕ → ℕ → Bool
 has_expired moment expiry = not (expiry == 0) && nat_le expiry moment
 

@@ -1,4 +1,4 @@
--- Where in the words of a bucket its moment, its counter and the parts of its slots stand.
+-- Where in the words of a bucket its moment, its counter and the parts of its slots are.
 use Rattle.std.specs.Prelude.{ℕ, ◌+◌, ◌*◌, List, slice_index}
 use Rattle.mc_model.specs.declared.geometry.Geometry.{Geometry}
 

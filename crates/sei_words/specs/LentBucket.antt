@@ -1,9 +1,9 @@
--- The words that are lent, where a bucket is lent.
+-- The words that are lent, if a bucket is lent.
 use Rattle.std.specs.Prelude.{◌≡◌, ℕ, List, [], Option, Some, None, ⊤}
 use Rattle.mc_model.specs.declared.geometry.Geometry.{Geometry}
 use Rattle.sei_words.specs.Words.{BucketWords}
 
--- the words of the bucket, and none where no bucket is lent
+-- the words of the bucket, and none if no bucket is lent
 abbrev pub words_of : Option BucketWords → List ℕ
 words_of None = []
 words_of (Some b) = b.words

@@ -10,8 +10,8 @@ use Rattle.sei_words.specs.Stored.{StoredAt}
 use Rattle.sei_words.specs.Value.{HasValue, RestIsSound}
 use Rattle.sei_words.specs.Holds.{Holds}
 
--- slot i reads as this key and item. Lengths are in bytes. The words of the key and of the value are
--- their packings, zero bytes of the last word too; the words after them are free of meaning.
+-- slot i reads as this key and item. Lengths are in bytes. The words of the key and of the value are their packings,
+-- zero bytes of the last word too. The words after them have no meaning.
 pub record Reads (g : Geometry) (words : List ℕ) (i : ℕ) (k : List ℕ) (x : Item) : Type 0 where
   pub hash : field g words i hash_offset ≡ fnv64 k
   pub key_length : field g words i key_length_offset ≡ length k

@@ -1,4 +1,4 @@
--- The value words of a slot, and what stays when one slot is written. No crate above knows where values stand.
+-- The value words of a slot, and what does not change when one slot is written.
 use Rattle.std.specs.Prelude.{◌≡◌, ◌≢◌, ⊤, ℕ, ◌+◌, ◌<◌, ◌≤◌, List, length, slice_index}
 use Rattle.mc_model.specs.declared.geometry.Geometry.{Geometry}
 use Rattle.sei_words.specs.Layout.{slot_at, field, value_offset}
@@ -22,7 +22,7 @@ SameValue g ws t j = (n : ℕ) → n < g.value_words → slice_index t (slot_at 
 abbrev pub FieldsSame : Geometry → List ℕ → List ℕ → ℕ → Type 0
 FieldsSame g ws t j = (n : ℕ) → n < value_offset → field g t j n ≡ field g ws j n
 
--- of all slots but i the fields stay, and of the taken ones the values too
+-- the fields of all slots but i stay, and the values of the taken ones too
 pub record OthersStay (g : Geometry) (moment : ℕ) (ws t : List ℕ) (i : ℕ) : Type 0 where
   pub size : length t ≡ length ws
   pub fields : (j : ℕ) → j < g.slots → j ≢ i → FieldsSame g ws t j

@@ -1,4 +1,4 @@
--- The words of a bucket as a value: with the bucket's number, and the geometry that they are laid out by.
+-- The words of a bucket as a value, with the bucket's number, and the geometry that they are laid out by.
 use Rattle.std.specs.Prelude.{◌≡◌, ℕ, ◌<◌, List, length, replicate, slice_set}
 use Rattle.mc_model.specs.declared.geometry.Geometry.{Geometry}
 use Rattle.mc_model.specs.Server.{IsValid}

@@ -1,5 +1,4 @@
-//! Where in the words of a bucket its moment, its counter and the parts of its slots stand. Offsets
-//! are counted from where a slot begins. A slot whose first word is 0 is free.
+//! Where in the words of a bucket its moment, its counter and the parts of its slots are.
 ghost use Rattle.std.specs.Prelude.{◌≡◌, ◌+◌, ◌<◌, ◌≤◌};
 ghost use Rattle.mc_model.specs.Server.{IsValid};
 ghost use Rattle.sei_words.specs.Layout as layout;
@@ -15,7 +14,8 @@ pub const COUNTER: u64 = 1;
 /// The address at which the first slot begins.
 pub const FIRST_SLOT: u64 = 2;
 
-/// The offset of the word that says whether the slot is used.
+/// The offset, from where the slot begins, of the word that says whether the slot is used. If it is
+/// 0, the slot is free. The other offsets are counted in the same way.
 pub const USED: u64 = 0;
 
 /// The offset of the hash of the key.
@@ -72,7 +72,7 @@ pub fn width(g: &Geometry) -> u64
     VALUE + g.value_words
 }
 
-/// The address at which the slot begins. That of the number of slots is where the words end.
+/// The address at which the slot begins. For the number of slots it is the end of the words.
 #[tactic(auto, unfolding(crate::specs::Layout::slot_at, crate::specs::Layout::width))]
 pub fn slot_at(g: &Geometry, slot: u64) -> u64
     requires valid { IsValid g.now }

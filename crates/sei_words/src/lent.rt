@@ -5,7 +5,7 @@ ghost use Rattle.sei_words.specs.LentBucket.{words_of, bucket_of, place_of};
 
 use crate::words::Words;
 
-/// The words of a bucket, where one is lent.
+/// The words of a bucket, if one is lent.
 pub trait Lent {
     /// The bucket's words with its number and geometry, or `None` if no bucket is lent.
     ghost lent_bucket: { Self → Option BucketWords };
@@ -14,12 +14,12 @@ pub trait Lent {
     fn bucket(&self) -> Option<u64>
         ensures { result ≡ bucket_of (lent_bucket self.now) };
 
-    /// The word at this address, where there is one.
+    /// The word at this address, if there is one.
     fn get(&self, a: u64) -> Option<u64>
         ensures found { result ≡ slice_get (words_of (lent_bucket self.now)) a }
         ensures below { IfSome result (λ _. a < length (words_of (lent_bucket self.now))) };
 
-    /// Writes the word at this address, if there is one. Otherwise nothing of the words changes.
+    /// Writes the word at this address. If there is no such address, no word changes.
     fn set(&mut self, a: u64, w: u64)
         ensures word { a < length (words_of (lent_bucket self.old)) →
             words_of (lent_bucket self.new) ≡ slice_set (words_of (lent_bucket self.old)) a w }

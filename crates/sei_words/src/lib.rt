@@ -1,5 +1,5 @@
-//! The words of a bucket: where each of its items stands in a list of numbers of 64 bits, which
-//! slots are free, and for which bucket of the model such words stand.
+//! The words of a bucket, which are numbers of 64 bits. This crate says where the parts of an item
+//! are, which slots are free, and for which bucket of the model the words stand.
 #![tactic(auto)]
 
 pub mod layout;

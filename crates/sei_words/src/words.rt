@@ -78,7 +78,7 @@ impl Words {
         words.len() as u64
     }
 
-    /// The word at this address, where there is one.
+    /// The word at this address, if there is one.
     pub fn get(&self, a: u64) -> Option<u64>
         ensures { result ≡ slice_get self.now.words a }
     {
@@ -89,8 +89,8 @@ impl Words {
         }
     }
 
-    /// Writes the word at this address. It is false where there is no such address, and then
-    /// nothing has changed.
+    /// Writes the word at this address. False if there is no such address; then nothing has
+    /// changed.
     pub fn set(&mut self, a: u64, w: u64) -> bool
         ensures there { result ≡ nat_lt a (length self.old.words) }
         ensures done { OnTrue result (self.new ≡ with_word self.old a w) }
@@ -114,7 +114,7 @@ impl Words {
         field(&self.geometry, words, slot, USED) == 0 || (expiry != 0 && expiry <= moment)
     }
 
-    /// The lowest slot that is free at this moment, and none exactly where each slot holds an item.
+    /// The lowest slot that is free at this moment, or none exactly if no slot is free.
     pub fn first_free(&self, moment: u64) -> Option<u64>
         ensures lowest { IfSome result (λ slot. IsFirstFree self.now.geometry self.now.words moment slot) }
         ensures none { IfNone result (IsFull self.now.geometry self.now.words moment) }

@@ -31,7 +31,7 @@ abbrev pub lent_if : Bool → BucketWords → Option BucketWords
 lent_if true words = Some words
 lent_if false words = None
 
--- whether the bucket is lent after a step that wants this: it is from the want of Take to the want of Give
+-- whether the bucket is lent after a step with this want: it is from the want Take to the want Give
 abbrev pub lent_after : Want → Bool → Bool
 lent_after (Take bucket) lent = true
 lent_after Give lent = false
@@ -43,20 +43,20 @@ pub record Ran {S : Type 0} (gives : S → (q : Question) → Answer q → S →
   pub run : RunsOn gives counts told (hands_behavior g) text before x z t
 
 -- a traversal for the call of a request came here from its begin, by steps of the definition alone, under one core,
--- whatever was lent at each of them; and whether it goes on
+-- whatever was lent at each of them. The state is whether it goes on
 pub data Came {S : Type 0} (gives : S → (q : Question) → Answer q → S → Type 0) (counts : S → Counts) (g : Geometry) (text : List ℕ) : TraversalState → S → State → Type 0 where
   Begins : (core : S) → Came gives counts g text (begun_traversal (pass_space g) (sealed_of text)) core Went
   GoesOn : (x z : On S) (t : Turned) → Came gives counts g text x.traversal x.core Went →
       Ran gives counts (Some 0) g text x z t → Came gives counts g text z.traversal z.core t.state
 
--- a traversal for it finished, after so many steps
+-- a traversal for it finished, after this many steps
 pub record Finishes {S : Type 0} (gives : S → (q : Question) → Answer q → S → Type 0) (counts : S → Counts) (g : Geometry) (text : List ℕ) (steps : ℕ) : Type 0 where
   pub traversal : TraversalState
   pub core : S
   pub came : Came gives counts g text traversal core Finished
   pub counted : steps ≡ traversal.steps
 
--- so many calls of a request finished, with so many steps in all; at the last value of a u64 that number stays
+-- n calls of a request finished, with this many steps in all; at the last value of a u64 that number does not change
 pub data MadeFor {S : Type 0} (gives : S → (q : Question) → Answer q → S → Type 0) (counts : S → Counts) (g : Geometry) (text : List ℕ) : ℕ → ℕ → Type 0 where
   NoCall : MadeFor gives counts g text 0 0
   OneMore : (calls steps more : ℕ) → MadeFor gives counts g text calls steps → Finishes gives counts g text more →

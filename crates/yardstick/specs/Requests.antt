@@ -4,11 +4,11 @@ use Rattle.std.specs.Fmt.{decimal}
 use Rattle.yardstick.specs.declared.order.Command.{Command}
 use Rattle.yardstick.specs.declared.order.Command.TheVariants.{Set, Get, Miss}
 
--- a set of a key of so many letters `k` to a value of so many letters `v`
+-- a set of a key of this many letters `k` to a value of this many letters `v`
 abbrev pub set_text : ℕ → ℕ → List ℕ
 set_text key value = codes "set " ++ replicate key 107 ++ (codes " 0 0 " ++ decimal value ++ codes "\r\n") ++ replicate value 118 ++ codes "\r\n"
 
--- a get of a key of so many times this letter
+-- a get of a key that repeats this letter
 abbrev pub get_text : ℕ → ℕ → List ℕ
 get_text letter key = codes "get " ++ replicate key letter ++ codes "\r\n"
 

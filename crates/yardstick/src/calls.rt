@@ -1,4 +1,4 @@
-//! Calls, one traversal for each.
+//! Makes calls, one traversal for each.
 ghost use Rattle.std.specs.Prelude.{◌≡◌, true, Some, None, IfOk, IfSome};
 ghost use Rattle.mc_model.specs.Server.{IsValid};
 ghost use Rattle.sei_pass.specs.Spaces.{pass_space};
@@ -39,7 +39,8 @@ impl From<Memory> for Failure {
     }
 }
 
-/// Whether the bucket is lent after a step that wants this: it is from the want of `Take` to the want of `Give`.
+/// Whether the bucket is lent after a step with this want: it is from the want `Take` to the want
+/// `Give`.
 fn is_lent_after(want: Want, lent: bool) -> bool
     ensures { result ≡ lent_after want lent }
 {
@@ -194,7 +195,7 @@ fn call<K: Core>(
     None
 }
 
-/// Makes so many calls of a request.
+/// Makes `calls` calls of a request.
 fn repeat<K: Core>(
     traversal: &mut Traversal,
     hands: &Hands,
@@ -219,7 +220,7 @@ fn repeat<K: Core>(
     Some(Made { calls, steps })
 }
 
-/// Makes so many calls of a request under the core that is named.
+/// Makes the order's calls, all of one request, under the order's core.
 fn repeat_under(
     traversal: &mut Traversal,
     hands: &Hands,
@@ -308,7 +309,7 @@ fn hands_of(alloc: Global, geometry: Geometry) -> Result<Hands, Failure>
 pub fn measure(alloc: Global, order: &Order) -> Result<Made, Failure>
     requires { IsValid order.now.geometry }
     ensures calls { IfOk result (λ made. made.calls ≡ order.now.calls) }
-    // So many calls of the request that the order spells finished, with so many steps in all.
+    // This many calls of the request that the order spells finished, with this many steps in all.
     ensures made { IfOk result (λ made. MadeUnder order.now.core order.now.geometry (request_text order.now.command order.now.key order.now.value) order.now.calls made.steps) }
 {
     let hands = hands_of(alloc, order.geometry)?;

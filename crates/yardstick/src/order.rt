@@ -1,4 +1,4 @@
-//! What is to be measured.
+//! Orders: what is to be measured.
 ghost use Rattle.std.specs.Prelude.{◌≡◌, ◌≤◌, IfSome, map, string_bytes};
 ghost use Rattle.mc_model.specs.Server.{IsValid};
 ghost use Rattle.yardstick.specs.Orders.{core_word, way_word, command_word, IsNumber, Spells};
@@ -8,9 +8,9 @@ use mc_model::{Geometry, number_upto};
 /// Which core answers the questions of each step.
 #[derive(Clone, Copy, Debug, PartialEq, Eq)]
 pub enum CoreKind {
-    /// The one that knows of no plan.
+    /// The one without a plan.
     Plain,
-    /// The one of planned faults, with no plan.
+    /// The one of planned faults, without a plan.
     Script,
 }
 
@@ -30,12 +30,12 @@ pub enum Command {
     Set,
     /// Gets of the key.
     Get,
-    /// Gets of another key, which is not there. All slots are walked.
+    /// Gets of another key, which is not there.
     Miss,
 }
 
-/// Many calls of one kind, all on one key of the only bucket. One set of the key goes before them, which
-/// is not counted.
+/// Many calls of one kind, all on one key of the only bucket. One set of the key comes before them,
+/// which is not counted.
 #[derive(Clone, Copy)]
 pub struct Order {
     pub core: CoreKind,

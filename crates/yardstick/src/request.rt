@@ -6,7 +6,7 @@ use crate::order::Command;
 use sei_code::Memory;
 use std::alloc::Global;
 
-/// Appends so many times this letter.
+/// Appends this letter `count` times.
 fn letters(into: &mut Vec<u8>, letter: u8, count: u64) -> Result<(), Memory>
     ensures { OnOk result (into.new.items ≡ into.old.items ++ replicate count letter) }
 {
@@ -16,7 +16,7 @@ fn letters(into: &mut Vec<u8>, letter: u8, count: u64) -> Result<(), Memory>
     Ok(())
 }
 
-/// A set of a key of so many letters `k` to a value of so many letters `v`.
+/// A set of a key of `key` letters `k` to a value of `value` letters `v`.
 fn set(alloc: Global, key: u64, value: u64) -> Result<Vec<u8>, Memory>
     ensures { IfOk result (λ text. text.items ≡ set_text key value) }
 {
@@ -28,7 +28,7 @@ fn set(alloc: Global, key: u64, value: u64) -> Result<Vec<u8>, Memory>
     Ok(text)
 }
 
-/// A get of a key of so many times this letter.
+/// A get of a key of `key` times this letter.
 fn get(alloc: Global, letter: u8, key: u64) -> Result<Vec<u8>, Memory>
     ensures { IfOk result (λ text. text.items ≡ get_text letter key) }
 {
@@ -38,7 +38,7 @@ fn get(alloc: Global, letter: u8, key: u64) -> Result<Vec<u8>, Memory>
     Ok(text)
 }
 
-/// The request of a command, for a key and a value of so many bytes.
+/// The request of a command, for a key and a value of these many bytes.
 pub fn request(alloc: Global, command: Command, key: u64, value: u64) -> Result<Vec<u8>, Memory>
     ensures { IfOk result (λ text. text.items ≡ request_text command key value) }
 {

@@ -1,3 +1,4 @@
+//! A connection: its bytes, and how many requests, calls and messages it had.
 ghost use Rattle.std.specs.Prelude.{◌≡◌, ◌+◌, ◌<◌, ◌≤◌, ◌^◌, length, false, OnOk, OnErr};
 ghost use Rattle.sei_main.specs.Seats.{Seat, empty_seat, waiting, fed_more, taken_more, stopped};
 
@@ -72,7 +73,7 @@ impl Connection {
         self.entered
     }
 
-    /// How many of its requests were answered, which is the number of the next one.
+    /// How many of its requests were taken, which is the number of the next one.
     pub fn requests(&self) -> u64
         ensures { result ≡ self.now.requests }
     {
@@ -86,7 +87,7 @@ impl Connection {
         self.sent
     }
 
-    /// A request of `size` bytes was answered: so many calls, so many messages.
+    /// A request of `size` bytes was answered: with n calls and m messages.
     pub fn took(&mut self, size: usize, calls: u64, messages: u64, closes: bool)
         requires open { self.old.closed ≡ false }
         requires whole { size ≤ length (waiting self.old) }
@@ -103,7 +104,7 @@ impl Connection {
         self.closed = closes;
     }
 
-    /// A call of the first request that waits was refused or aborted, behind so many messages of the
+    /// A call of the first request that waits was refused or aborted, after n messages of the
     /// request. Nothing more of the connection is answered.
     pub fn stop(&mut self, messages: u64)
         requires open { self.old.closed ≡ false }

@@ -1,3 +1,4 @@
+//! What the world asks of a server, and the plain server as one.
 ghost use Rattle.std.specs.Prelude.{◌≡◌, OnOk, IfOk, length};
 ghost use Rattle.mc_model.specs.Views.{placed_of, IsSpanOf};
 ghost use Rattle.mc_text.specs.declared.limits.Limits.{Limits};
@@ -32,9 +33,9 @@ pub struct Entered {
 /// What became of a call.
 #[derive(Drop)]
 pub struct Served {
-    /// Its entry, where it was entered.
+    /// Its entry, if it was entered.
     pub entered: Option<Entered>,
-    /// The message that was sent; an empty one where none was.
+    /// The message that was sent; an empty one if none was.
     pub message: Text,
     /// How its traversal ended.
     pub state: State,
@@ -42,7 +43,7 @@ pub struct Served {
 
 /// A server of calls: what becomes of a call is a function of the server's state and of what it is asked.
 pub trait Service {
-    /// The server behind a call, what became of it, and how many strikes fell in its traversal.
+    /// The server after a call, what became of it, and how many strikes fell in its traversal.
     ghost answering: { Answering Self };
 
     /// The limits of the requests that it is asked, which never change.
@@ -50,7 +51,7 @@ pub trait Service {
 
     /// Answers `call`, whose key and block are spans of `text`: call number `nth`, from 0, of the
     /// request that `text` spells. `now` is in seconds since the start of 1970, and `plan` is the fault
-    /// that is planned for its traversal. After want of memory nothing is said of the server but its
+    /// that is planned for its traversal. If memory ran out, nothing is said of the server but its
     /// limits.
     fn answer(
         &mut self,

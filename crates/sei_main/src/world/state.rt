@@ -1,3 +1,4 @@
+//! The world of a script: what each line does, and what is written as it happens.
 ghost use Rattle.std.specs.Prelude.{◌≡◌, ◌+◌, ◌<◌, ◌≤◌, [], ◌^◌, false, length, OnOk, IfOk, slice_set, slice_index_or};
 ghost use Rattle.std.specs.Io.KnownBytes.{append_known};
 ghost use Rattle.sei_outside.specs.Faults.{Rose};
@@ -72,7 +73,7 @@ struct Answered {
     state: State,
 }
 
-/// Writes the line of an entry, where there is one.
+/// Writes the line of an entry, if there is one.
 fn write_entered<K: Sink>(
     reporter: Reporter,
     sink: &mut K,
@@ -95,7 +96,7 @@ fn write_entered<K: Sink>(
     }
 }
 
-/// Writes how a traversal ended, where it did not finish.
+/// Writes how a traversal ended, if it did not finish.
 fn write_ended<K: Sink>(
     reporter: Reporter,
     sink: &mut K,
@@ -139,7 +140,7 @@ fn write_served<K: Sink>(
     Ok(sent)
 }
 
-/// Answers call number `nth` of a request, behind so many of its messages, and writes what happens.
+/// Answers call number `nth` of a request, after n of its messages, and writes what happens.
 fn answer_call<S: Service, K: Sink>(
     server: &mut S,
     reporter: Reporter,
