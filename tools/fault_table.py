@@ -1,28 +1,35 @@
 #!/usr/bin/env python3
 """Plans one fault after another in a script, replays each, and prints tables of what came of them.
 
-usage: fault_table.py PROGRAM [--steps]
+usage: fault_table.py [PROGRAM] [--steps]
 
-PROGRAM is the proved program (crates/sei_main/out/sei_main). Two scripts are run in one bucket of one
-slot: a `set` on the empty bucket with a `get` behind it, and a `get` behind a `set` with one more `get`
-behind it. The `set` is struck in the first, and in the second the first `get`; the request behind the
-struck one reads the key back. For each phase and each kind of fault a plan is made for every step that
-the traversal makes there, and the reports are counted. Reads are those of the first three values of a
+PROGRAM is the proved program, crates/sei_main/out/sei_main of this repository if none is named. To make the tables by hand:
+
+    (cd crates/sei_main && rt run -- replay < stdin)    proves and builds the program
+    python3 tools/fault_table.py                        prints the tables of docs/FAULTS.md, in some minutes
+    python3 tools/fault_table.py --steps                prints them with a row for each step
+
+It needs Python 3.9 and nothing else, and writes no file.
+
+Two scripts are run in one bucket of one slot: a `set` on the empty bucket and then a `get`, and a `set` and
+then two `get`s. The first struck request is the `set`, the second the first of the two `get`s; the request
+after the struck one reads the key back. For each phase and each kind of fault a plan is made for every step
+that the traversal makes there, and the reports are counted. Reads are those of the first three values of a
 step, masks are 1, and jumps lead to the first step of each phase:
 
     right    the whole report is that of the script without a fault, so the key was read back right: the
              plan did not strike, or what it did was right all the same
-    refused  the connection was refused, and nothing was sent of this request and those behind it
+    refused  the connection was refused, and nothing was sent of this request and those after it
     PHASE CAUSE  the traversal aborted there; the right message of it was sent before, or none, and
-             nothing behind it
+             nothing after it
 
-Each cell has the count in front: `5 right, 1 take gate`. The number that belongs to a cause is left out.
-With `--steps` each step has a row, which steps one behind the other that end alike share, each fault a
-column, and a cause its number.
+Each cell has the count first: `5 right, 1 take gate`. The number that belongs to a cause is left out.
+With `--steps` each step has a row, each fault a column, and a cause its number. Neighbouring steps that end
+alike share a row.
 
 Of each replay the whole report is looked at: which messages are sent, that `took` counts them and `left`
-the bytes of the requests from the struck one on, the last line, and the exit status, which is 3 behind an
-abort and else 0. Where anything is wrong, it is told on standard error, `WRONG` stands in the table, and
+the bytes of the requests from the struck one on, the last line, and the exit status, which is 3 after an
+abort and else 0. If anything is wrong, it is told on standard error, `WRONG` stands in the table, and
 the status is 1. A phase in which no fault strikes is wrong too.
 """
 import os
@@ -31,6 +38,8 @@ import sys
 from collections import Counter
 from concurrent.futures import ThreadPoolExecutor
 
+# The program if none is named.
+PROGRAM = os.path.join(os.path.dirname(os.path.abspath(__file__)), "..", "crates", "sei_main", "out", "sei_main")
 SET = "set a 0 0 1\\r\\nx\\r\\n"
 GET = "get a\\r\\n"
 PHASES = ["guard", "take", "first", "restore", "second", "compare", "verify", "enter", "give", "send", "done"]
@@ -43,7 +52,7 @@ KINDS = [
     ("jump", [f"jump {phase} 0" for phase in PHASES]),
 ]
 FAULTS = [fault for _, faults in KINDS for fault in faults]
-# So many indices in a row at which no step is made end the search for steps.
+# The search for steps ends after this many indices in a row at which no step is made.
 MOST_MISSED = 400
 
 
@@ -69,12 +78,12 @@ class Load:
         return done.stdout.decode().splitlines(), done.returncode
 
     def bytes_left(self):
-        """How many bytes the struck request and those behind it have."""
+        """How many bytes the struck request and those after it have."""
         said = "".join(self.requests[self.struck :])
         return len(said.encode().decode("unicode_escape"))
 
     def reports(self, line):
-        """The reports in which the struck request ends with this line: only an abort may stand behind its message."""
+        """The reports in which the struck request ends with this line: only an abort may stand after its message."""
         is_abort = line.startswith("abort ")
         last = "end aborted" if is_abort else "end ok"
         most = self.struck + 1 if is_abort else self.struck
@@ -82,7 +91,7 @@ class Load:
             yield [*self.sent[:sent], line, f"took 0 {sent}", f"left 0 {self.bytes_left()}", last]
 
     def outcome(self, fault):
-        """What came of a fault, with the exact cause; None where a report or a status is wrong."""
+        """What came of a fault, with the exact cause; None if a report or a status is wrong."""
         report, status = self.replay(fault)
         if report == self.quiet:
             return "right" if status == 0 else None
@@ -145,7 +154,7 @@ def phase_rows(phase, ends):
 
 
 def step_rows(phase, ends):
-    """A row for each step; steps one behind the other that end alike share one."""
+    """A row for each step; neighbouring steps that end alike share one."""
     rows = []
     for index, end in ends.items():
         cells = [end[fault] or "WRONG" for fault in FAULTS]
@@ -171,13 +180,15 @@ def table(pool, load, by_steps):
 
 
 def main(words):
-    by_steps = words[1:] == ["--steps"]
-    if not words or (words[1:] and not by_steps):
+    by_steps = words[-1:] == ["--steps"]
+    programs = words[:-1] if by_steps else words
+    program = programs[0] if programs else PROGRAM
+    if len(programs) > 1 or program.startswith("-") or not os.access(program, os.X_OK):
         sys.stderr.write(__doc__)
         return 1
     loads = [
-        Load(words[0], "A `set` of a new key:", [SET, GET], 0),
-        Load(words[0], "A `get` of it:", [SET, GET, GET], 1),
+        Load(program, "A `set` of a new key:", [SET, GET], 0),
+        Load(program, "A `get` of it:", [SET, GET, GET], 1),
     ]
     with ThreadPoolExecutor(os.cpu_count()) as pool:
         tables = [table(pool, load, by_steps) for load in loads]
