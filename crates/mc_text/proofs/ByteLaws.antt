@@ -1,5 +1,5 @@
 -- The key and the block of a call are bytes of the request.
-use Rattle.std.proofs.Common.{ℕ, ◌<◌, Bool, true, false, cond, List, [], ◌∷◌, ◌++◌, length, drop, sym, subst, Some, None}
+use Rattle.std.proofs.Common.{ℕ, zero, suc, ◌+◌, ◌<◌, Bool, true, false, cond, List, [], ◌∷◌, ◌++◌, length, drop, sym, subst, Some, None}
 use Rattle.std.specs.Prelude.{All, ⊤, ◌==◌, nat_le}
 use Rattle.std.specs.Str.{bytes_eq}
 use Rattle.std.proofs.lemmas.List.Elements.{All-nil, All-cons, All-head, All-tail, All-append, All-take, All-drop}
@@ -8,7 +8,7 @@ use Rattle.mc_model.specs.Packed.{AreBytes}
 use Rattle.mc_text.specs.declared.limits.Limits.{Limits}
 use Rattle.mc_model.specs.Texts.{bad_data_chunk_text, line_too_long_text, object_too_large_text}
 use Rattle.mc_text.specs.Words.{closed, words_from, words, line_end, without_cr}
-use Rattle.mc_text.specs.Meaning.{Meaning, Quit, One, Each, Everywhere, key_calls, calls_of}
+use Rattle.mc_text.specs.Meaning.{Meaning, Quit, One, Each, Everywhere, key_calls, bucket_calls, calls_of}
 use Rattle.mc_text.specs.Lines.{Ends, Wants, fixed}
 use Rattle.mc_text.specs.Spells.{Spells, TooLong, OneLine, WithBlock, settled, finished}
 use Rattle.mc_text.specs.Fits.{HasBytes}
@@ -58,7 +58,7 @@ abbrev HoldsBytes : Meaning → Type 0
 HoldsBytes Quit = ⊤
 HoldsBytes (One c closing) = AreBytes c.key × AreBytes c.block
 HoldsBytes (Each c keys) = All AreBytes keys × AreBytes c.block
-HoldsBytes (Everywhere c) = ⊥
+HoldsBytes (Everywhere c) = AreBytes c.key × AreBytes c.block
 
 text_bytes : (text : ℕ) (noreply closing : Bool) → HoldsBytes (One (fixed text noreply) closing)
 text_bytes text noreply closing = (no_bytes, no_bytes)
@@ -67,7 +67,7 @@ ended_bytes : (ws : List (List ℕ)) (m : Meaning) → All AreBytes ws → LineF
 ended_bytes ws Quit h f = tt
 ended_bytes ws (One c closing) h f = (subst AreBytes (sym f.key) no_bytes, subst AreBytes (sym f.block) no_bytes)
 ended_bytes ws (Each c keys) h f = (some_bytes ws keys h f.2, subst AreBytes (sym f.3) no_bytes)
-ended_bytes ws (Everywhere c) h f = f
+ended_bytes ws (Everywhere c) h f = (subst AreBytes (sym f.key) no_bytes, subst AreBytes (sym f.block) no_bytes)
 
 finished_bytes : (l : Limits) (c : Call) (keys : List (List ℕ)) (block ending : List ℕ) → All AreBytes keys → AreBytes block → HoldsBytes (finished l c keys block ending)
 unfolding finished
@@ -96,12 +96,17 @@ keys_bytes buckets c (x ∷ xs) k b =
     All-cons HasBytes (record { bucket = bucket_of_key buckets x; call = record c { key = x; last = length xs == 0 } }) (key_calls buckets c xs)
     (record { key = All-head AreBytes x xs k; block = b }) (keys_bytes buckets c xs (All-tail AreBytes x xs k) b)
 
+buckets_bytes : (c : Call) (b n : ℕ) → AreBytes c.key → AreBytes c.block → All HasBytes (bucket_calls c b n)
+buckets_bytes c b zero k h = All-nil HasBytes
+buckets_bytes c b (suc n) k h =
+    All-cons HasBytes (record { bucket = b; call = record c { last = n == 0 } }) (bucket_calls c (b + 1) n) (record { key = k; block = h }) (buckets_bytes c (b + 1) n k h)
+
 calls_bytes : (buckets : ℕ) (m : Meaning) → HoldsBytes m → All HasBytes (calls_of buckets m)
 unfolding calls_of
 calls_bytes buckets Quit f = All-nil HasBytes
 calls_bytes buckets (One c closing) f = All-cons HasBytes (record { bucket = 0; call = c }) [] (record { key = f.0; block = f.1 }) (All-nil HasBytes)
 calls_bytes buckets (Each c keys) f = keys_bytes buckets c keys f.0 f.1
-calls_bytes buckets (Everywhere c) f = absurd f
+calls_bytes buckets (Everywhere c) f = buckets_bytes c 0 buckets f.0 f.1
 
 -- each call of a request of bytes
 pub calls_hold_bytes : (l : Limits) (text : List ℕ) (m : Meaning) → AreBytes text → Spells l text m → All HasBytes (calls_of l.buckets m)

@@ -7,7 +7,7 @@ use Rattle.std.proofs.Math.ListN.{length-take, length-drop, length-append}
 use Rattle.sei_code.specs.Codes.{fnv64}
 use Rattle.mc_model.specs.Call.{Call, Placed}
 use Rattle.mc_text.specs.Words.{words, words_from, closed, arg}
-use Rattle.mc_text.specs.Meaning.{key_calls}
+use Rattle.mc_text.specs.Meaning.{key_calls, bucket_calls}
 use Rattle.mc_text.specs.Lines.{some_words}
 
 eq_one : (n : ℕ) (m : ℕ) → eqb (suc n + 1) (suc m) ≡ eqb (n + 1) m
@@ -35,6 +35,33 @@ get_past (x ∷ xs) (suc n) h = get_past xs n (omega arith)
 
 pub no_key_call : (buckets : ℕ) (c : Call) (keys : List (List ℕ)) (n : ℕ) → length keys ≤ n → slice_get (key_calls buckets c keys) n ≡ None
 no_key_call buckets c keys n h = get_past (key_calls buckets c keys) n (omega (arith, length-key_calls buckets c keys))
+
+-- the nth call from bucket b on is at the bucket b + n
+bucket_call_from : (c : Call) (b buckets n : ℕ) → n < buckets → slice_get (bucket_calls c b buckets) n ≡ Some (record { bucket = b + n; call = record c { last = eqb (n + 1) buckets } })
+bucket_call_from c b zero n h = absurd (omega arith)
+bucket_call_from c b (suc m) zero h =
+    let here : b ≡ b + 0 = omega arith in
+    ap (λ (l : Bool). Some (record { bucket = b; call = record c { last = l } })) (first m) ∙ ap (λ (k : ℕ). Some (record { bucket = k; call = record c { last = eqb (0 + 1) (suc m) } })) here
+  where
+    first : (m : ℕ) → eqb m 0 ≡ eqb (0 + 1) (suc m)
+    first m = grind (arith, nat_tests)
+bucket_call_from c b (suc m) (suc n) h =
+    let there : b + 1 + n ≡ b + suc n = omega arith in
+    bucket_call_from c (b + 1) m n (omega arith)
+    ∙ ap (λ (k : ℕ). Some (record { bucket = k; call = record c { last = eqb (n + 1) m } })) there
+    ∙ ap (λ (l : Bool). Some (record { bucket = b + suc n; call = record c { last = l } })) (sym (eq_one n m))
+
+pub bucket_call_at : (c : Call) (buckets n : ℕ) → n < buckets → slice_get (bucket_calls c 0 buckets) n ≡ Some (record { bucket = n; call = record c { last = eqb (n + 1) buckets } })
+bucket_call_at c buckets n h =
+    let here : 0 + n ≡ n = omega arith in
+    bucket_call_from c 0 buckets n h ∙ ap (λ (k : ℕ). Some (record { bucket = k; call = record c { last = eqb (n + 1) buckets } })) here
+
+pub length-bucket_calls : (c : Call) (b n : ℕ) → length (bucket_calls c b n) ≡ n
+length-bucket_calls c b zero = refl
+length-bucket_calls c b (suc n) = ap suc (length-bucket_calls c (b + 1) n)
+
+pub no_bucket_call : (c : Call) (buckets n : ℕ) → buckets ≤ n → slice_get (bucket_calls c 0 buckets) n ≡ None
+no_bucket_call c buckets n h = get_past (bucket_calls c 0 buckets) n (omega (arith, length-bucket_calls c 0 buckets))
 
 -- the words from first on
 pub some_word : (ws : List (List ℕ)) (first count n : ℕ) → n < count → first + count ≤ length ws → arg (some_words ws first count) n ≡ arg ws (first + n)

@@ -8,7 +8,7 @@ use Rattle.mc_model.specs.declared.call.Verb.TheVariants as verbs
 use Rattle.mc_model.specs.Call.{verb_number}
 use Rattle.mc_text.specs.declared.commands.Command.{Command}
 use Rattle.mc_text.specs.Commands.{Row, commands, command_in, command_of, has_keys, key_verbs, read_verbs, read_numbers, IsReadVerb}
-use Rattle.mc_text.specs.Fits.{HasKey}
+use Rattle.mc_text.specs.Fits.{HasKey, HasNoKey}
 
 -- what a test says of each row it says of the command that is found
 row_is : (p : Command → Bool) (w : List ℕ) (c : Command) (rows : List Row) → list_all (λ r. p r.command) rows ≡ true → command_in w rows ≡ Some c → p c ≡ true
@@ -67,14 +67,17 @@ row_verb w c more (r ∷ rows) is keys = by_word (bytes_eq w r.word) (has_keys r
 
 pub form_is_read : (w : List ℕ) (c : Command) → command_of w ≡ Some c → has_keys c.form ≡ true → IsReadVerb c.verb
 unfolding command_of
-form_is_read w c is keys = let o = row_verb w c (verbs.Fixed ∷ []) commands is keys in record { place = o.0; there = o.1 }
+form_is_read w c is keys = let o = row_verb w c (verbs.Flush ∷ verbs.Fixed ∷ []) commands is keys in record { place = o.0; there = o.1 }
 
-last_there : (vs : List Verb) (v : Verb) → (i : ℕ) × (slice_get (vs ++ v ∷ []) i ≡ Some v)
-last_there [] v = (0, refl)
-last_there (x ∷ vs) v = let o = last_there vs v in (suc o.0, o.1)
+there_after : (vs ws : List Verb) (j : ℕ) (v : Verb) → slice_get ws j ≡ Some v → (i : ℕ) × (slice_get (vs ++ ws) i ≡ Some v)
+there_after [] ws j v is = (j, is)
+there_after (x ∷ vs) ws j v is = let o = there_after vs ws j v is in (suc o.0, o.1)
+
+pub flush_is_read : IsReadVerb verbs.Flush
+flush_is_read = let o = there_after (key_verbs commands) (verbs.Flush ∷ verbs.Fixed ∷ []) 0 verbs.Flush refl in record { place = o.0; there = o.1 }
 
 pub text_is_read : IsReadVerb verbs.Fixed
-text_is_read = let o = last_there (key_verbs commands) verbs.Fixed in record { place = o.0; there = o.1 }
+text_is_read = let o = there_after (key_verbs commands) (verbs.Flush ∷ verbs.Fixed ∷ []) 1 verbs.Fixed refl in record { place = o.0; there = o.1 }
 
 -- a fact holds of each command of the list
 abbrev pub OfEach : (Verb → Type 0) → List Verb → Type 0
@@ -98,26 +101,8 @@ number_at (x ∷ vs) (suc i) v is = number_at vs i v is
 pub read_number_is : (v : Verb) (r : IsReadVerb v) → slice_get read_numbers r.place ≡ Some (verb_number v)
 read_number_is v r = number_at read_verbs r.place v r.there
 
--- each is on one key, or a text
-key_or_text : Verb → Bool
-key_or_text verbs.Flush = false
-key_or_text verb = true
-
-key_or_text_is : (v : Verb) → key_or_text v ≡ true → HasKey v ⊎ (v ≡ verbs.Fixed)
-unfolding key_or_text
-key_or_text_is verbs.Flush e = cc
-key_or_text_is verbs.Fixed e = inr refl
-key_or_text_is verb e = inl tt
-
-test_there : (p : Verb → Bool) (vs : List Verb) (i : ℕ) (v : Verb) → list_all p vs ≡ true → slice_get vs i ≡ Some v → p v ≡ true
-test_there p [] i v all is = cc
-test_there p (x ∷ vs) i v all is = by_test i (p x) refl all is (test_there p vs)
-  where
-    by_test : (i : ℕ) (good : Bool) → p x ≡ good → (good && list_all p vs) ≡ true → slice_get (x ∷ vs) i ≡ Some v → ((i : ℕ) (v : Verb) → list_all p vs ≡ true → slice_get vs i ≡ Some v → p v ≡ true) → p v ≡ true
-    by_test zero true e all is later = let same : x ≡ v = cc in ap p (sym same) ∙ e
-    by_test (suc i) true e all is later = later i v all is
-    by_test i false e all is later = cc
-
-pub read_has_key : (v : Verb) → IsReadVerb v → HasKey v ⊎ (v ≡ verbs.Fixed)
-unfolding key_or_text
-read_has_key v r = key_or_text_is v (test_there key_or_text read_verbs r.place v refl r.there)
+-- each is on one key, or on none
+pub read_has_key : (v : Verb) → IsReadVerb v → HasKey v ⊎ HasNoKey v
+read_has_key verbs.Flush r = inr tt
+read_has_key verbs.Fixed r = inr tt
+read_has_key v r = inl tt

@@ -18,6 +18,12 @@ HasKey Flush = ⊥
 HasKey Fixed = ⊥
 HasKey verb = ⊤
 
+-- a command on no key
+abbrev pub HasNoKey : Verb → Type 0
+HasNoKey Flush = ⊤
+HasNoKey Fixed = ⊤
+HasNoKey verb = ⊥
+
 -- a command whose lines have keys is one on a key
 abbrev pub KeyIfForm : Form → Verb → Type 0
 KeyIfForm form verb = has_keys form ≡ true → HasKey verb
@@ -31,15 +37,15 @@ pub record HasReadFields (c : Call) : Type 0 where
   pub verb : IsReadVerb c.verb
   pub flags : c.flags < 2 ^ 32
   pub exptime : c.exptime < 2 ^ 63
-  pub unique : c.unique ≡ 0
-  pub value : c.value ≡ 0
+  pub unique : c.unique < 2 ^ 64
+  pub value : c.value < 2 ^ 64
 
 -- its key and its block are bytes
 pub record HasBytes (p : Placed) : Type 0 where
   pub key : AreBytes p.call.key
   pub block : AreBytes p.call.block
 
--- a call is at its own bucket, a key has its form, a block is within the limit, a text has neither
+-- a call stands at its own bucket, a key has its form, a block is within the limit, a call on no key has neither
 pub record IsFit (l : Limits) (p : Placed) : Type 0 where
   pub placed : IsPlaced l.buckets p
   pub bucket : p.bucket < l.buckets
@@ -47,5 +53,5 @@ pub record IsFit (l : Limits) (p : Placed) : Type 0 where
   pub block : length p.call.block ≤ l.value_bytes
   pub text : p.call.text < text_count
   pub fields : HasReadFields p.call
-  pub no_key : p.call.verb ≡ Fixed → p.call.key ≡ []
-  pub no_block : p.call.verb ≡ Fixed → p.call.block ≡ []
+  pub no_key : HasNoKey p.call.verb → p.call.key ≡ []
+  pub no_block : HasNoKey p.call.verb → p.call.block ≡ []

@@ -1,4 +1,5 @@
 -- The first request of a list of bytes, as a function.
+-- It is proved to be the request that `Spells.antt` says (proofs/FrontLaws.antt).
 use Rattle.std.specs.Prelude.{ℕ, ◌+◌, nat_lt, List, Option, Some, None, length, take, slice_range, if◌then◌else◌}
 use Rattle.mc_text.specs.declared.limits.Limits.{Limits}
 use Rattle.mc_text.specs.Bounds.{longest_line}

@@ -12,7 +12,7 @@ use Rattle.mc_text.specs.declared.parsed.Template.{Template}
 use Rattle.mc_text.specs.declared.parsed.ParsedLine.{ParsedLine}
 use Rattle.mc_text.specs.declared.parsed.ParsedLine.TheVariants as lines
 use Rattle.mc_model.specs.Texts.{text_count}
-use Rattle.mc_text.specs.Meaning.{Meaning, Quit, One, Each}
+use Rattle.mc_text.specs.Meaning.{Meaning, Quit, One, Each, Everywhere}
 use Rattle.mc_text.specs.Lines.{LineMeaning, Ends, Wants, some_words}
 use Rattle.mc_text.specs.Fits.{HasKey}
 
@@ -26,6 +26,7 @@ abbrev pub by_kind : Kind → Call → List (List ℕ) → Meaning
 by_kind kinds.Quit c keys = Quit
 by_kind (kinds.One closing) c keys = One c closing
 by_kind kinds.Each c keys = Each c keys
+by_kind kinds.Everywhere c keys = Everywhere c
 
 -- a request with this block, its keys among these words
 abbrev pub meaning_of : List ℕ → List (List ℕ) → Template → Meaning
@@ -39,6 +40,7 @@ abbrev pub HasVerbOf : Kind → Verb → Type 0
 HasVerbOf kinds.Quit verb = ⊤
 HasVerbOf (kinds.One closing) verb = verb ≡ verbs.Fixed
 HasVerbOf kinds.Each verb = HasKey verb
+HasVerbOf kinds.Everywhere verb = verb ≡ verbs.Flush
 
 -- its keys are among these words, its command is one of its kind, and its text is one of the table
 pub record IsTemplateOf (ws : List (List ℕ)) (t : Template) : Type 0 where

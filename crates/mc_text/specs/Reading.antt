@@ -5,7 +5,7 @@ use Rattle.mc_model.specs.Views.{call_with}
 use Rattle.mc_text.specs.declared.limits.Limits.{Limits}
 use Rattle.mc_text.specs.declared.request.Request.{Request}
 use Rattle.mc_text.specs.Words.{words}
-use Rattle.mc_text.specs.Meaning.{Meaning, key_calls, calls_of}
+use Rattle.mc_text.specs.Meaning.{Meaning, key_calls, bucket_calls, calls_of}
 use Rattle.mc_text.specs.Lines.{some_words}
 use Rattle.mc_text.specs.Spells.{Spells}
 use Rattle.mc_text.specs.Parsed.{meaning_of, IsTemplateOf}
@@ -33,6 +33,10 @@ buckets_of r = r.buckets
 -- a call at each of its keys
 abbrev pub key_calls_at : List ℕ → Request → List Placed
 key_calls_at bytes r = key_calls (buckets_of r) (shared_call bytes r) (keys_at bytes r)
+
+-- a call at each of the buckets
+abbrev pub bucket_calls_at : List ℕ → Request → List Placed
+bucket_calls_at bytes r = bucket_calls (shared_call bytes r) 0 (buckets_of r)
 
 -- its calls
 abbrev pub calls_at : List ℕ → Request → List Placed

@@ -1,4 +1,6 @@
 -- The grammar: what request a whole text spells.
+-- Source: memcached's protocol.txt, "Commands", "Storage commands", "Retrieval command" and "Error strings".
+-- docs/PROTOCOL.md tells the part of it that is spoken here.
 use Rattle.std.specs.Prelude.{◌≡◌, ℕ, suc, ◌<◌, true, false, ◌==◌, nat_le, List, [], ◌∷◌, ◌++◌, Option, Some, None, length, take, ◌≤◌, if◌then◌else◌}
 use Rattle.std.specs.Str.{bytes_eq}
 use Rattle.mc_model.specs.Call.{Call}
@@ -39,6 +41,7 @@ abbrev pub block_refusal : Limits → List ℕ → List ℕ → Option ℕ
 block_refusal l block ending =
     if bytes_eq ending crlf then (if nat_le (length block) l.value_bytes then None else Some object_too_large_text) else Some bad_data_chunk_text
 
+-- the call at its keys, with its block; or the text that refuses the block
 abbrev pub settled : Call → List (List ℕ) → List ℕ → Option ℕ → Meaning
 settled c keys block None = Each (record c { block = block }) keys
 settled c keys block (Some text) = One (fixed text c.noreply) false

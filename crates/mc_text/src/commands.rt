@@ -12,10 +12,18 @@ use mc_model::Verb;
 pub enum Form {
     /// A key, flags, an exptime and the size of a block, which follows the line.
     Storage,
+    /// The same, and a cas unique.
+    CheckAndSet,
     /// One key or more.
     Retrieval,
+    /// An exptime, and one key or more.
+    GetAndTouch,
+    /// A key and an exptime.
+    Touch,
     /// A key, and perhaps a 0 without meaning.
     Deletion,
+    /// Perhaps a 0 without meaning.
+    Flush,
     /// The word alone, answered by the version.
     Version,
     /// A number.
@@ -39,10 +47,18 @@ pub fn is(word: &[u8], name: &[u8]) -> bool
 }
 
 /// The commands: the word, the form of its lines, and the command of its calls.
-const COMMANDS: [(&str, Form, Verb); 6] = [
+const COMMANDS: [(&str, Form, Verb); 14] = [
     ("set", Form::Storage, Verb::Set),
+    ("add", Form::Storage, Verb::Add),
+    ("replace", Form::Storage, Verb::Replace),
+    ("cas", Form::CheckAndSet, Verb::Cas),
     ("get", Form::Retrieval, Verb::Get),
+    ("gets", Form::Retrieval, Verb::Gets),
+    ("gat", Form::GetAndTouch, Verb::Gat),
+    ("gats", Form::GetAndTouch, Verb::Gats),
+    ("touch", Form::Touch, Verb::Touch),
     ("delete", Form::Deletion, Verb::Delete),
+    ("flush_all", Form::Flush, Verb::Flush),
     ("version", Form::Version, Verb::Fixed),
     ("verbosity", Form::Verbosity, Verb::Fixed),
     ("quit", Form::Quit, Verb::Fixed),

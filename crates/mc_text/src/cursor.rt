@@ -60,6 +60,11 @@ impl Cursor {
                 Some(call)
             }
             Kind::Each => self.next_key(request, bytes),
+            Kind::Everywhere => {
+                let call = request.bucket_call(self.nth)?;
+                self.nth += 1;
+                Some(call)
+            }
         }
     }
 

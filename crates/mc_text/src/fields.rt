@@ -1,9 +1,9 @@
-//! The fields of a line: a key, an exptime, `noreply`.
+//! The fields of a line: a key, an exptime, those of an item, `noreply`.
 
-ghost use Rattle.std.specs.Prelude.{◌≡◌, ◌<◌, ◌≤◌, length, drop};
+ghost use Rattle.std.specs.Prelude.{◌≡◌, ◌<◌, ◌≤◌, ◌^◌, length, drop, IfSome};
 ghost use Rattle.std.specs.List.{list_all};
 ghost use Rattle.mc_text.specs.Words.{words, arg};
-ghost use Rattle.mc_text.specs.Fields.{is_key_byte, is_key, keys_in, exptime_of, is_noreply, has_words};
+ghost use Rattle.mc_text.specs.Fields.{is_key_byte, is_key, keys_in, exptime_of, item_of, is_noreply, has_words};
 
 use crate::commands::is;
 use crate::limits::LONGEST_KEY;
@@ -13,7 +13,20 @@ use mc_model::number_upto;
 /// The greatest number of seconds in an exptime.
 const LARGEST_EXPTIME: u64 = 0x7fff_ffff_ffff_ffff;
 
-/// The bytes of the nth word, or none if it is missing.
+/// The greatest number in flags, in the size of a block and in a verbosity.
+pub const LARGEST_FIELD: u64 = 0xffff_ffff;
+
+/// What the line of an item has beside its key.
+#[derive(Clone, Copy)]
+pub struct Item {
+    pub flags: u32,
+    pub negative: bool,
+    pub exptime: u64,
+    /// The bytes of its block.
+    pub bytes: u64,
+}
+
+/// The bytes of the nth word, none if there is none.
 pub fn word_bytes(line: &[u8], nth: usize) -> &[u8]
     ensures { result.now ≡ arg (words line.now) nth }
 {
@@ -58,6 +71,26 @@ pub fn exptime_of(word: &[u8]) -> Option<(bool, u64)>
         let n = number_upto(LARGEST_EXPTIME, word)?;
         Some((false, n))
     }
+}
+
+/// The item that a key, flags, an exptime and a size spell, if each has its form.
+#[tactic(auto, unfolding(crate::specs::Fields::item_of))]
+pub fn item_of(key: &[u8], flags: &[u8], exptime: &[u8], bytes: &[u8]) -> Option<Item>
+    ensures item { result ≡ item_of key.now flags.now exptime.now bytes.now }
+    ensures few { IfSome result (λ i. i.bytes < 2 ^ 32) }
+{
+    if !is_key(key) {
+        return None;
+    }
+    let flags = number_upto(LARGEST_FIELD, flags)?;
+    let (negative, exptime) = exptime_of(exptime)?;
+    let bytes = number_upto(LARGEST_FIELD, bytes)?;
+    Some(Item {
+        flags: flags as u32,
+        negative,
+        exptime,
+        bytes,
+    })
 }
 
 /// Whether a word asks for no reply.

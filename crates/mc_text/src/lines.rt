@@ -5,22 +5,21 @@ ghost use Rattle.mc_model.specs.Views.{call_with};
 ghost use Rattle.mc_text.specs.Words.{words};
 ghost use Rattle.mc_model.specs.Texts.{text_count};
 ghost use Rattle.mc_text.specs.Meaning.{One};
-ghost use Rattle.mc_text.specs.Lines.{Ends, fixed, refused, block_for, some_words, has_zero_words, is_zero_or_noreply, asks_noreply, storage, retrieval, deletion, version, verbosity, quit, words_say};
+ghost use Rattle.mc_text.specs.Lines.{Ends, fixed, refused, block_for, some_words, item_call, has_zero_words, is_zero_or_noreply, asks_noreply, storage, check_and_set, retrieval, get_and_touch, touch, deletion, flush, version, verbosity, quit, words_say};
 ghost use Rattle.mc_text.specs.Fits.{HasKey};
 ghost use Rattle.mc_text.specs.Walk.{next_of, IsScan};
 ghost use Rattle.mc_text.specs.Parsed.{line_meaning_of, IsParsedOf};
 
 use crate::commands::{Form, command_of, is};
-use crate::fields::{exptime_of, has_words, is_key, is_noreply, keys_at, word_bytes};
+use crate::fields::{
+    Item, LARGEST_FIELD, exptime_of, has_words, is_key, is_noreply, item_of, keys_at, word_bytes,
+};
 use crate::limits::LONGEST_BLOCK;
 use crate::parsed::{Kind, ParsedLine, Template, blank};
 use crate::scan::Scan;
 use crate::words::count;
 use mc_model::texts::{BAD_LINE_FORMAT, ERROR, OBJECT_TOO_LARGE, OKAY, VERSION};
 use mc_model::{CallSpan, Verb, number_upto};
-
-/// The greatest number in flags, in the size of a block and in a verbosity.
-const LARGEST_FIELD: u64 = 0xffff_ffff;
 
 /// A request that is answered by a text.
 fn fixed(line: &[u8], text: u8, noreply: bool, closing: bool) -> ParsedLine
@@ -70,6 +69,21 @@ fn block_for(line: &[u8], call: CallSpan, bytes: u64) -> ParsedLine
     ParsedLine::Wants(template, bytes as usize)
 }
 
+/// A call that offers an item.
+fn item_call(verb: Verb, item: &Item, noreply: bool) -> CallSpan
+    ensures call { call_with [] [] result ≡ item_call verb item.now noreply }
+    ensures verb { result.verb ≡ verb }
+    ensures text { result.text < text_count }
+{
+    CallSpan {
+        flags: item.flags,
+        negative: item.negative,
+        exptime: item.exptime,
+        noreply,
+        ..blank(verb)
+    }
+}
+
 #[tactic(auto, unfolding(crate::specs::Lines::storage))]
 fn storage(line: &[u8], mut scan: Scan, verb: Verb) -> ParsedLine
     requires place { IsScan line.now scan }
@@ -85,26 +99,39 @@ fn storage(line: &[u8], mut scan: Scan, verb: Verb) -> ParsedLine
     let Some(noreply) = scan.ending(line, bytes) else {
         return refused(line, ERROR);
     };
-    if !is_key(key) {
-        return refused(line, BAD_LINE_FORMAT);
-    }
-    let Some(flags) = number_upto(LARGEST_FIELD, flags) else {
+    let Some(item) = item_of(key, flags, exptime, bytes) else {
         return refused(line, BAD_LINE_FORMAT);
     };
-    let Some((negative, exptime)) = exptime_of(exptime) else {
+    block_for(line, item_call(verb, &item, noreply), item.bytes)
+}
+
+#[tactic(auto, unfolding(crate::specs::Lines::check_and_set))]
+fn check_and_set(line: &[u8], mut scan: Scan, verb: Verb) -> ParsedLine
+    requires place { IsScan line.now scan }
+    requires next { next_of scan ≡ 1 }
+    requires verb { HasKey verb }
+    ensures meaning { line_meaning_of (words line.now) result ≡ check_and_set verb (words line.now) }
+    ensures parsed { IsParsedOf (words line.now) result }
+{
+    let key = scan.next(line);
+    let flags = scan.next(line);
+    let exptime = scan.next(line);
+    let bytes = scan.next(line);
+    let unique = scan.next(line);
+    let Some(noreply) = scan.ending(line, unique) else {
+        return refused(line, ERROR);
+    };
+    let Some(item) = item_of(key, flags, exptime, bytes) else {
         return refused(line, BAD_LINE_FORMAT);
     };
-    let Some(bytes) = number_upto(LARGEST_FIELD, bytes) else {
+    let Some(unique) = number_upto(u64::MAX, unique) else {
         return refused(line, BAD_LINE_FORMAT);
     };
     let call = CallSpan {
-        flags: flags as u32,
-        negative,
-        exptime,
-        noreply,
-        ..blank(verb)
+        unique,
+        ..item_call(verb, &item, noreply)
     };
-    block_for(line, call, bytes)
+    block_for(line, call, item.bytes)
 }
 
 #[tactic(auto, unfolding(crate::specs::Lines::retrieval))]
@@ -125,6 +152,70 @@ fn retrieval(line: &[u8], scan: Scan, verb: Verb) -> ParsedLine
             count,
         }),
     }
+}
+
+#[tactic(auto, unfolding(crate::specs::Lines::get_and_touch))]
+fn get_and_touch(line: &[u8], mut scan: Scan, verb: Verb) -> ParsedLine
+    requires place { IsScan line.now scan }
+    requires next { next_of scan ≡ 1 }
+    requires verb { HasKey verb }
+    ensures meaning { line_meaning_of (words line.now) result ≡ get_and_touch verb (words line.now) }
+    ensures parsed { IsParsedOf (words line.now) result }
+{
+    let exptime = scan.next(line);
+    match keys_at(line, scan.place(line)) {
+        None => refused(line, BAD_LINE_FORMAT),
+        Some(0) => refused(line, ERROR),
+        Some(count) => {
+            let Some((negative, exptime)) = exptime_of(exptime) else {
+                return refused(line, BAD_LINE_FORMAT);
+            };
+            let call = CallSpan {
+                negative,
+                exptime,
+                ..blank(verb)
+            };
+            ParsedLine::Ends(Template {
+                kind: Kind::Each,
+                call,
+                first: 2,
+                count,
+            })
+        }
+    }
+}
+
+#[tactic(auto, unfolding(crate::specs::Lines::touch))]
+fn touch(line: &[u8], mut scan: Scan, verb: Verb) -> ParsedLine
+    requires place { IsScan line.now scan }
+    requires next { next_of scan ≡ 1 }
+    requires verb { HasKey verb }
+    ensures meaning { line_meaning_of (words line.now) result ≡ touch verb (words line.now) }
+    ensures parsed { IsParsedOf (words line.now) result }
+{
+    let key = scan.next(line);
+    let exptime = scan.next(line);
+    let Some(noreply) = scan.ending(line, exptime) else {
+        return refused(line, ERROR);
+    };
+    if !is_key(key) {
+        return refused(line, BAD_LINE_FORMAT);
+    }
+    let Some((negative, exptime)) = exptime_of(exptime) else {
+        return refused(line, BAD_LINE_FORMAT);
+    };
+    let call = CallSpan {
+        negative,
+        exptime,
+        noreply,
+        ..blank(verb)
+    };
+    ParsedLine::Ends(Template {
+        kind: Kind::Each,
+        call,
+        first: 1,
+        count: 1,
+    })
 }
 
 /// Whether a line has `n` words and up to two more, the second of which is `noreply`.
@@ -178,6 +269,29 @@ fn deletion(line: &[u8], verb: Verb) -> ParsedLine
         call,
         first: 1,
         count: 1,
+    })
+}
+
+#[tactic(auto, unfolding(crate::specs::Lines::flush))]
+fn flush(line: &[u8]) -> ParsedLine
+    ensures meaning { line_meaning_of (words line.now) result ≡ flush (words line.now) }
+    ensures parsed { IsParsedOf (words line.now) result }
+{
+    if !has_zero_words(line, 1) {
+        return refused(line, ERROR);
+    }
+    if !is_zero_or_noreply(line, 1) {
+        return refused(line, BAD_LINE_FORMAT);
+    }
+    let call = CallSpan {
+        noreply: asks_noreply(line, 1),
+        ..blank(Verb::Flush)
+    };
+    ParsedLine::Ends(Template {
+        kind: Kind::Everywhere,
+        call,
+        first: 0,
+        count: 0,
     })
 }
 
@@ -235,8 +349,12 @@ pub fn parse_line(line: &[u8]) -> ParsedLine
     };
     match command.form {
         Form::Storage => storage(line, scan, command.verb),
+        Form::CheckAndSet => check_and_set(line, scan, command.verb),
         Form::Retrieval => retrieval(line, scan, command.verb),
+        Form::GetAndTouch => get_and_touch(line, scan, command.verb),
+        Form::Touch => touch(line, scan, command.verb),
         Form::Deletion => deletion(line, command.verb),
+        Form::Flush => flush(line),
         Form::Version => version(line),
         Form::Verbosity => verbosity(line),
         Form::Quit => quit(line),

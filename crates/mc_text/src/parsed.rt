@@ -14,6 +14,8 @@ pub enum Kind {
     One { closing: bool },
     /// One call for each key.
     Each,
+    /// One call for each bucket.
+    Everywhere,
 }
 
 /// A request as its line has it: which of the line's words are its keys, and what its calls have

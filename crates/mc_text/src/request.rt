@@ -2,13 +2,13 @@
 
 ghost use Rattle.std.specs.Prelude.{◌≡◌, ℕ, ◌+◌, ◌<◌, ◌≤◌, List, [], ◌∷◌, length, take, slice_range, slice_get, Some, IfSome};
 ghost use Rattle.std.specs.Option.{option_map};
-ghost use Rattle.mc_model.specs.declared.call.Verb.TheVariants.{Fixed};
+ghost use Rattle.mc_model.specs.declared.call.Verb.TheVariants.{Flush, Fixed};
 ghost use Rattle.mc_model.specs.Call.{IsPlaced};
 ghost use Rattle.mc_model.specs.Views.{IsSpanOf, placed_of};
 ghost use Rattle.mc_text.specs.Words.{words, arg};
 ghost use Rattle.mc_text.specs.Meaning.{ends_connection, is_closing};
 ghost use Rattle.mc_text.specs.Fits.{HasKey, HasOwnHash};
-ghost use Rattle.mc_text.specs.Reading.{meaning_at, length_of, buckets_of, calls_at, key_calls_at, shared_call, IsOf};
+ghost use Rattle.mc_text.specs.Reading.{meaning_at, length_of, buckets_of, calls_at, key_calls_at, bucket_calls_at, shared_call, IsOf};
 
 use crate::parsed::{Kind, Template, no_span};
 use crate::words::word;
@@ -46,6 +46,7 @@ impl Request {
             Kind::Quit => 0,
             Kind::One { .. } => 1,
             Kind::Each => self.template.count as u64,
+            Kind::Everywhere => self.buckets,
         }
     }
 
@@ -55,8 +56,7 @@ impl Request {
     {
         match self.template.kind {
             Kind::One { closing } => closing,
-            Kind::Quit => false,
-            Kind::Each => false,
+            Kind::Quit | Kind::Each | Kind::Everywhere => false,
         }
     }
 
@@ -67,7 +67,7 @@ impl Request {
         match self.template.kind {
             Kind::Quit => true,
             Kind::One { closing } => closing,
-            Kind::Each => false,
+            Kind::Each | Kind::Everywhere => false,
         }
     }
 
@@ -86,6 +86,7 @@ impl Request {
             Kind::Quit => None,
             Kind::One { .. } => self.only_call(nth),
             Kind::Each => self.key_call(bytes, nth),
+            Kind::Everywhere => self.bucket_call(nth),
         }
     }
 
@@ -108,6 +109,29 @@ impl Request {
             hash: 0,
             bucket: 0,
             block: self.block,
+            ..self.template.call
+        })
+    }
+
+    /// The call at the nth bucket.
+    pub(crate) fn bucket_call(&self, nth: u64) -> Option<CallSpan>
+        requires verb { self.now.template.call.verb ≡ Flush }
+        ensures value { (bytes : List ℕ) → option_map (placed_of bytes) result ≡ slice_get (bucket_calls_at bytes self.now) nth }
+        ensures places { (bytes : List ℕ) → IsOf bytes self.now → IfSome result (λ c. IsSpanOf bytes c) }
+        ensures placed { (bytes : List ℕ) → IfSome result (λ c. IsPlaced (buckets_of self.now) (placed_of bytes c)) }
+        ensures bucket { IfSome result (λ c. c.bucket < buckets_of self.now) }
+        ensures hash { (bytes : List ℕ) → IfSome result (λ c. HasOwnHash bytes c) }
+        ensures below { IfSome result (λ c. nth < buckets_of self.now) }
+    {
+        if nth >= self.buckets {
+            return None;
+        }
+        Some(CallSpan {
+            key: no_span(),
+            hash: 0,
+            bucket: nth,
+            block: self.block,
+            last: nth + 1 == self.buckets,
             ..self.template.call
         })
     }

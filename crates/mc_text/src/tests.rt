@@ -102,6 +102,29 @@ fn gives_the_call_of_a_delete(rt: HostRuntime) {
 }
 
 #[test]
+fn gives_the_call_of_a_cas(rt: HostRuntime) {
+    let call = first_call(b"cas key 5 -60 5 7\r\nvalue\r\n").expect(&rt, "a call");
+    assert_eq!(rt;
+        (call.verb, call.key, call.block),
+        (
+            Verb::Cas,
+            Span { from: 4, to: 7 },
+            Span { from: 19, to: 24 }
+        )
+    );
+    assert_eq!(rt; (call.flags, call.negative, call.exptime), (5, true, 60));
+    assert_eq!(rt; (call.unique, call.last, call.noreply), (7, true, false));
+}
+
+#[test]
+fn walks_over_the_buckets(rt: HostRuntime) {
+    let [one, two, three] = three_calls(b"flush_all noreply\r\n").expect(&rt, "each call");
+    assert_eq!(rt; (one.verb, one.bucket, one.last), (Verb::Flush, 0, false));
+    assert_eq!(rt; (two.bucket, two.last, two.noreply), (1, false, true));
+    assert_eq!(rt; (three.bucket, three.last, three.noreply), (2, true, true));
+}
+
+#[test]
 fn walks_over_the_keys(rt: HostRuntime) {
     let [one, two, three] = three_calls(b"get a  bb ccc\n").expect(&rt, "each call");
     assert_eq!(rt;
@@ -118,7 +141,7 @@ fn walks_over_the_keys(rt: HostRuntime) {
     );
 }
 
-const SHORT: [(&str, Outcome); 37] = [
+const SHORT: [(&str, Outcome); 49] = [
     ("get", Outcome::More),
     (
         "set key 5 -60 5\r\nvalue\r\nget key\r\n",
@@ -192,6 +215,27 @@ const SHORT: [(&str, Outcome); 37] = [
         "set a 0 0 25\n0123456789abcdefghijklmno\n\n",
         Outcome::Text(40, BAD_DATA_CHUNK),
     ),
+    ("add a 0 0 1\r\nx\r\n", Outcome::Calls(16, 1)),
+    (
+        "cas a 0 0 1 18446744073709551615\r\nx\r\n",
+        Outcome::Calls(37, 1),
+    ),
+    (
+        "cas a 0 0 1048577 18446744073709551616 noreply\r\n",
+        Outcome::Text(48, BAD_LINE_FORMAT),
+    ),
+    (
+        "cas a 0 0 1 noreply\r\n",
+        Outcome::Text(21, BAD_LINE_FORMAT),
+    ),
+    ("gets a b\r\n", Outcome::Calls(10, 2)),
+    ("gat -1 a b\r\n", Outcome::Calls(12, 2)),
+    ("gats x\r\n", Outcome::Text(8, ERROR)),
+    ("touch a 60 noreply\r\n", Outcome::Calls(20, 1)),
+    ("touch a noreply\r\n", Outcome::Text(17, BAD_LINE_FORMAT)),
+    ("flush_all\r\n", Outcome::Calls(11, 3)),
+    ("flush_all 0 noreply\r\n", Outcome::Calls(21, 3)),
+    ("flush_all 60\r\n", Outcome::Text(14, BAD_LINE_FORMAT)),
 ];
 
 /// The first row whose text comes to something else.

@@ -9,7 +9,7 @@ use Rattle.mc_model.specs.Call.{Call, Placed}
 use Rattle.mc_model.specs.Packed.{pack}
 use Rattle.mc_model.proofs.PublicPacking.{length_pack}
 use Rattle.mc_text.specs.Commands.{IsReadVerb}
-use Rattle.mc_text.specs.Fits.{HasKey, HasBytes}
+use Rattle.mc_text.specs.Fits.{HasNoKey, HasKey, HasBytes}
 use Rattle.mc_text.proofs.PublicCommands.{read_has_key}
 use Rattle.sei_code.specs.Codes.{fnv64}
 use Rattle.tab_find.specs.Calls.{IsCall}
@@ -50,7 +50,7 @@ own_hash Flush key keyed = absurd keyed
 own_hash Fixed key keyed = absurd keyed
 own_hash v key keyed = refl
 
-hash_is : (v : Verb) (key : List ℕ) → IsReadVerb v → (v ≡ Fixed → key ≡ []) → key ≢ [] → hash_word v key ≡ fnv64 key
+hash_is : (v : Verb) (key : List ℕ) → IsReadVerb v → (HasNoKey v → key ≡ []) → key ≢ [] → hash_word v key ≡ fnv64 key
 hash_is v key read none some = elim (read_has_key v read) [
   | inl keyed ↦ own_hash v key keyed
   | inr text ↦ absurd (some (none text))

@@ -3,6 +3,7 @@ use Rattle.std.proofs.Common.{◌≡◌, ◌≢◌, ℕ, suc, ◌+◌, ◌-◌, 
 use Rattle.std.specs.Prelude.{slice_get}
 use Rattle.mc_model.specs.declared.geometry.Geometry.{Geometry}
 use Rattle.mc_model.specs.declared.call.Verb.{Verb}
+use Rattle.mc_model.specs.declared.call.Verb.TheVariants as verbs
 use Rattle.mc_model.specs.Bucket.{Bucket}
 use Rattle.mc_model.specs.Call.{Call, verb_number}
 use Rattle.mc_text.specs.Commands.{IsReadVerb}
@@ -10,7 +11,7 @@ use Rattle.mc_text.specs.Fits.{HasKey}
 use Rattle.mc_text.proofs.PublicCommands.{read_verb_is}
 use Rattle.sei_stmt.specs.Order.{timed, is_parsed}
 use Rattle.sei_stmt.specs.Runs.{Given, RunState, tick}
-use Rattle.sei_stmt.specs.Programs.{Prog, Seq, Ends, HasWord}
+use Rattle.sei_stmt.specs.Programs.{Seq, Ends, HasWord}
 use Rattle.sei_stmt.proofs.PublicPrograms.{Chosen, halves_ends}
 use Rattle.tab_find.specs.Answers.{CanAnswer, HasConstants, HasBegun, Answered, AnswersCalls}
 use Rattle.tab_find.specs.Inputs.{verb_index, noreply_index}
@@ -33,19 +34,47 @@ pub record IsServed (v : Verb) : Type 0 where
   pub there : slice_get programs (verb_number v) ≡ Some (program_in rows (verb_number v))
   pub answers : AnswersCalls (OfCommand v) (program_in rows (verb_number v))
 
+-- one for each command
+
+set_served : IsServed verbs.Set
+set_served = record { few = omega arith; there = refl; answers = λ g e ws b c w can of. storing.parts_answer store_part.Set g e ws b c w can (of.0, of.1 tt) }
+
+add_served : IsServed verbs.Add
+add_served = record { few = omega arith; there = refl; answers = λ g e ws b c w can of. storing.parts_answer store_part.Add g e ws b c w can (of.0, of.1 tt) }
+
+replace_served : IsServed verbs.Replace
+replace_served = record { few = omega arith; there = refl; answers = λ g e ws b c w can of. storing.parts_answer store_part.Replace g e ws b c w can (of.0, of.1 tt) }
+
+cas_served : IsServed verbs.Cas
+cas_served = record { few = omega arith; there = refl; answers = λ g e ws b c w can of. storing.parts_answer store_part.Cas g e ws b c w can (of.0, of.1 tt) }
+
+get_served : IsServed verbs.Get
+get_served = record { few = omega arith; there = refl; answers = λ g e ws b c w can of. reading.parts_answer read_part.Get g e ws b c w can (of.0, of.1 tt) }
+
+gets_served : IsServed verbs.Gets
+gets_served = record { few = omega arith; there = refl; answers = λ g e ws b c w can of. reading.parts_answer read_part.Gets g e ws b c w can (of.0, of.1 tt) }
+
+gat_served : IsServed verbs.Gat
+gat_served = record { few = omega arith; there = refl; answers = λ g e ws b c w can of. reading.parts_answer read_part.Gat g e ws b c w can (of.0, of.1 tt) }
+
+gats_served : IsServed verbs.Gats
+gats_served = record { few = omega arith; there = refl; answers = λ g e ws b c w can of. reading.parts_answer read_part.Gats g e ws b c w can (of.0, of.1 tt) }
+
+touch_served : IsServed verbs.Touch
+touch_served = record { few = omega arith; there = refl; answers = λ g e ws b c w can of. reading.parts_answer read_part.Touch g e ws b c w can (of.0, of.1 tt) }
+
+delete_served : IsServed verbs.Delete
+delete_served = record { few = omega arith; there = refl; answers = λ g e ws b c w can of. reading.parts_answer read_part.Delete g e ws b c w can (of.0, of.1 tt) }
+
+flush_served : IsServed verbs.Flush
+flush_served = record { few = omega arith; there = refl; answers = λ g e ws b c w can of. reading.parts_answer read_part.Flush g e ws b c w can of.0 }
+
+fixed_served : IsServed verbs.Fixed
+fixed_served = record { few = omega arith; there = refl; answers = λ g e ws b c w can of. reading.parts_answer read_part.Fixed g e ws b c w can of.0 }
+
 -- one row for each command that requests may ask for, in their order
 pub served : (v : Verb) → IsReadVerb v → IsServed v
-served v read =
-    read_verb_is IsServed v (
-      record { few = omega arith; there = refl; answers = λ g e ws b c w can of. storing.parts_answer store_part.Set g e ws b c w can (of.0, of.1 tt) },
-      (
-        record { few = omega arith; there = refl; answers = λ g e ws b c w can of. reading.parts_answer read_part.Get g e ws b c w can (of.0, of.1 tt) },
-        (
-          record { few = omega arith; there = refl; answers = λ g e ws b c w can of. reading.parts_answer read_part.Delete g e ws b c w can (of.0, of.1 tt) },
-          (record { few = omega arith; there = refl; answers = λ g e ws b c w can of. reading.parts_answer read_part.Fixed g e ws b c w can of.0 }, tt),
-        ),
-      ),
-    ) read
+served v read = read_verb_is IsServed v (set_served, (add_served, (replace_served, (cas_served, (get_served, (gets_served, (gat_served, (gats_served, (touch_served, (delete_served, (flush_served, (fixed_served, tt)))))))))))) read
 
 -- after the moment: all of a command's beginning but its marks
 pub record Timed (g : Geometry) (ws : List ℕ) (b : Bucket) (s : RunState) : Type 0 where

@@ -1,7 +1,7 @@
 -- The one program of all commands.
 use Rattle.std.specs.Prelude.{ℕ, List, [], ◌∷◌, ◌==◌, map, if◌then◌else◌}
 use Rattle.mc_model.specs.declared.geometry.Geometry.{Geometry}
-use Rattle.mc_model.specs.declared.call.Verb.TheVariants.{Set, Get, Delete, Fixed}
+use Rattle.mc_model.specs.declared.call.Verb.TheVariants.{Set, Add, Replace, Cas, Get, Gets, Gat, Gats, Touch, Delete, Flush, Fixed}
 use Rattle.mc_model.specs.Call.{verb_number}
 use Rattle.sei_stmt.specs.declared.stmt.Stmt.{Stmt}
 use Rattle.sei_stmt.specs.declared.stmt.Stmt.TheVariants.{Const, Input, Parse, Render}
@@ -22,8 +22,16 @@ pub record Row : Type 0 where
 abbrev pub rows : List Row
 rows =
     record { number = verb_number Set; program = storing.part_program store.Set } ∷
+    record { number = verb_number Add; program = storing.part_program store.Add } ∷
+    record { number = verb_number Replace; program = storing.part_program store.Replace } ∷
+    record { number = verb_number Cas; program = storing.part_program store.Cas } ∷
     record { number = verb_number Get; program = reading.part_program read.Get } ∷
+    record { number = verb_number Gets; program = reading.part_program read.Gets } ∷
+    record { number = verb_number Gat; program = reading.part_program read.Gat } ∷
+    record { number = verb_number Gats; program = reading.part_program read.Gats } ∷
+    record { number = verb_number Touch; program = reading.part_program read.Touch } ∷
     record { number = verb_number Delete; program = reading.part_program read.Delete } ∷
+    record { number = verb_number Flush; program = reading.part_program read.Flush } ∷
     record { number = verb_number Fixed; program = reading.part_program read.Fixed } ∷ []
 
 -- the program of a number, which is empty if no request may ask for that command

@@ -39,8 +39,16 @@ fn program(alloc: Global, verb: Verb) -> Result<Program, Memory>
 {
     match verb {
         Verb::Set => tab_store::program(alloc, tab_store::Part::Set),
+        Verb::Add => tab_store::program(alloc, tab_store::Part::Add),
+        Verb::Replace => tab_store::program(alloc, tab_store::Part::Replace),
+        Verb::Cas => tab_store::program(alloc, tab_store::Part::Cas),
         Verb::Get => tab_read::program(alloc, tab_read::Part::Get),
+        Verb::Gets => tab_read::program(alloc, tab_read::Part::Gets),
+        Verb::Gat => tab_read::program(alloc, tab_read::Part::Gat),
+        Verb::Gats => tab_read::program(alloc, tab_read::Part::Gats),
+        Verb::Touch => tab_read::program(alloc, tab_read::Part::Touch),
         Verb::Delete => tab_read::program(alloc, tab_read::Part::Delete),
+        Verb::Flush => tab_read::program(alloc, tab_read::Part::Flush),
         Verb::Fixed => tab_read::program(alloc, tab_read::Part::Fixed),
         _ => Ok(Program::empty(alloc)),
     }

@@ -33,7 +33,7 @@ module _ (g : Geometry) (valid : IsValid g) (text : List ℕ) (bytes : AreBytes 
     handler = sound_hands g valid;
     bytes = bytes;
     call = is;
-    has = λ nth e. refl;
+    space = λ nth e. refl;
     clock = tells;
     held = b;
     begins = held;

@@ -1,5 +1,5 @@
 -- A request is taken: the answers to its calls are written, and then that the connection closes.
-use Rattle.std.proofs.Common.{◌≡◌, ℕ, ◌<◌, ◌≤◌, Bool, List, ◌++◌, length, take, ap, sym, ◌∙◌, subst, arith, Option}
+use Rattle.std.proofs.Common.{◌≡◌, ℕ, ◌<◌, ◌≤◌, ◌*◌, Bool, List, ◌++◌, length, take, ap, sym, ◌∙◌, subst, arith, Option}
 use Rattle.std.specs.Io.KnownBytes.{append_known}
 use Rattle.std.proofs.lemmas.List.{length-take}
 use Rattle.sei_outside.specs.Bytes.{WrotePart}
@@ -79,13 +79,13 @@ some_text l seat size request n =
     let w : IsWithin seat size = next_within l seat size (meaning_at (take size (waiting seat)) request) n.next in
     omega (arith, w.some, text_length l seat size request n)
 
--- a request has no more calls than bytes
-pub few_taken : (l : Limits) (seat : Seat) (size : ℕ) (request : Request) → IsNextOf l seat size request → length (calls_at (take size (waiting seat)) request) ≤ size
-few_taken l seat size request n =
-    omega (arith, text_length l seat size request n, few_calls (take size (waiting seat)) request (some_text l seat size request n))
+-- a request has at most 64 calls for each byte
+pub few_taken : (l : Limits) (seat : Seat) (size : ℕ) (request : Request) → IsNextOf l seat size request → l.buckets ≤ 64 → length (calls_at (take size (waiting seat)) request) ≤ 64 * size
+few_taken l seat size request n few =
+    omega (arith, text_length l seat size request n, few_calls (take size (waiting seat)) request (some_text l seat size request n) (omega (arith, n.reading.buckets, few)))
 
--- nor more messages than what waits
-pub few_messages : (l : Limits) (seat : Seat) (size : ℕ) (request : Request) (bytes : List ℕ) (messages : ℕ) → IsNextOf l seat size request → bytes ≡ waiting seat → messages ≤ length (calls_at (take size bytes) request) →
-    messages ≤ length (waiting seat)
-few_messages l seat size request bytes messages n b few =
-    omega (arith, subst (λ (bs : List ℕ). messages ≤ length (calls_at (take size bs) request)) b few, few_taken l seat size request n, n.within)
+-- and at most 64 messages for each byte that waits
+pub few_messages : (l : Limits) (seat : Seat) (size : ℕ) (request : Request) (bytes : List ℕ) (messages : ℕ) → IsNextOf l seat size request → l.buckets ≤ 64 → bytes ≡ waiting seat → messages ≤ length (calls_at (take size bytes) request) →
+    messages ≤ 64 * length (waiting seat)
+few_messages l seat size request bytes messages n small b few =
+    omega (arith, subst (λ (bs : List ℕ). messages ≤ length (calls_at (take size bs) request)) b few, few_taken l seat size request n small, n.within)

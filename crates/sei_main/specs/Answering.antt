@@ -24,6 +24,7 @@ pub record CallResult (S : Type 0) : Type 0 where
   pub served : Served
   pub strikes : ℕ
 
+-- a server of some kind, by what becomes of each call that it is asked
 abbrev pub Answering : Type 0 → Type 0
 Answering S = S → Asked → CallResult S
 

@@ -38,9 +38,11 @@ script_limits script = limits_of (geometry_of script)
 abbrev pub history_of : List ScriptLine → List Entry
 history_of script = entries_of (run_of script).events
 
+-- the history is legal
 abbrev pub IsLegalRun : List ScriptLine → Type 0
 IsLegalRun script = IsLegal (geometry_of script) (history_of script)
 
+-- the entries of each connection are numbered, and their calls are the first of those that the script feeds to it
 abbrev pub IsNumberedRun : List ScriptLine → Type 0
 IsNumberedRun script = (c : ℕ) → IsNumbered (script_limits script) (fed_to c script) (own_entries c (history_of script))
 
@@ -51,6 +53,7 @@ pub record SendsReplies (script : List ScriptLine) (c : ℕ) : Type 0 where
   pub sent : sent_to c (run_of script).events ≡ messages_of answered
   pub took : (seat_at (run_of script).state c).sent ≡ length (accepted_of (sent_to c (run_of script).events))
 
+-- this of each connection
 abbrev pub SendsRepliesRun : List ScriptLine → Type 0
 SendsRepliesRun script = (c : ℕ) → SendsReplies script c
 
@@ -83,5 +86,6 @@ pub record AnswersAll (script : List ScriptLine) (c : ℕ) : Type 0 where
   pub messages : sent_to c (run_of script).events ≡ messages_of (own_entries c (history_of script))
   pub left : Takes (script_limits script) (fed_to c script) (own_requests (script_limits script) (fed_to c script)) (waiting (seat_at (run_of script).state c))
 
+-- this of each connection, if the script is quiet and ends in `drain`
 abbrev pub AnswersAllRun : List ScriptLine → Type 0
 AnswersAllRun script = is_quiet script ≡ true → ends_in_drain script ≡ true → (c : ℕ) → AnswersAll script c

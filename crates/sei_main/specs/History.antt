@@ -34,9 +34,11 @@ pub record IsLegalEntry (geometry : Geometry) (earlier : List Entry) (entry : En
   pub placed : IsPlaced geometry.buckets (placed_in entry)
   pub reply : entry.reply ≡ (answer (room_of geometry) (state_after (room_of geometry) entry.bucket earlier) entry.now entry.call).1
 
+-- each of these entries is legal after the earlier ones and those before it
 abbrev pub IsLegalBehind : Geometry → List Entry → List Entry → Type 0
 IsLegalBehind geometry earlier [] = ⊤
 IsLegalBehind geometry earlier (entry ∷ entries) = IsLegalEntry geometry earlier entry × IsLegalBehind geometry (earlier ++ entry ∷ []) entries
 
+-- a memcached of one thread could have answered so: each entry is legal after all before it
 abbrev pub IsLegal : Geometry → List Entry → Type 0
 IsLegal geometry history = IsLegalBehind geometry [] history

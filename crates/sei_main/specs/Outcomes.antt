@@ -47,6 +47,8 @@ module _ {S : Type 0} (R : S → Server → Type 0) (t : Server) (a : Asked) (x 
     pub enters : (x.served.entered ≡ None) ⊎ (x.served.entered ≡ Some entry)
     pub sends : (x.served.message ≡ []) ⊎ ((x.served.entered ≡ Some entry) × (x.served.message ≡ reply))
 
+  -- it does as the plain server; or a planned fault struck, and it is refused with nothing entered, sent or changed, or it aborts
+  -- and is harmless
   pub data CallOutcome : Type 0 where
     AsThere : IsAsThere → CallOutcome
     TurnedAway : x.served ≡ refused_served → R x.server t → PlannedFaultStruck → CallOutcome

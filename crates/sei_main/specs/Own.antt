@@ -6,6 +6,7 @@ use Rattle.mc_text.specs.declared.limits.Limits.{Limits}
 use Rattle.mc_text.specs.Stream.{own_calls, IsPrefixOf}
 use Rattle.sei_main.specs.History.{Entry, placed_in}
 
+-- the entries of connection c, in order
 abbrev pub own_entries : ℕ → List Entry → List Entry
 own_entries c history = filter (λ entry. entry.connection == c) history
 
@@ -27,6 +28,7 @@ abbrev pub message_of : List ℕ → List (List ℕ)
 message_of [] = []
 message_of (b ∷ bs) = (b ∷ bs) ∷ []
 
+-- the messages of the replies of these entries, in order
 abbrev pub messages_of : List Entry → List (List ℕ)
 messages_of entries = flat_map (λ entry. message_of entry.reply) entries
 

@@ -36,9 +36,11 @@ abbrev pub served_text : Bool → ℕ → ℕ → ℕ → Served → List ℕ
 served_text history c number bucket s =
     entered_text history c number bucket s.entered ++ (message_text c s.message ++ ended_text c number s.state)
 
+-- the lines of these events, in order
 abbrev pub events_text : Bool → List Event → List ℕ
 events_text history events = flat_map (text_of history) events
 
+-- how many messages a connection's peer accepts, and how many bytes no request took, if any
 abbrev pub seat_text : ℕ → Seat → List ℕ
 seat_text c seat = took_text c seat.sent ++ left_text c (length (waiting seat))
 
@@ -47,6 +49,7 @@ abbrev pub seats_text : ℕ → List Seat → List ℕ
 seats_text c [] = []
 seats_text c (seat ∷ seats) = seat_text c seat ++ seats_text (c + 1) seats
 
+-- the last lines of a report: of each connection, and of the end
 abbrev pub closing_text : {S : Type 0} → StateOf S → List ℕ
 closing_text state = seats_text 0 state.seats ++ end_text state.aborted
 
@@ -54,5 +57,6 @@ closing_text state = seats_text 0 state.seats ++ end_text state.aborted
 abbrev pub line_text_by : {S : Type 0} → Stepping S → Bool → StateOf S → ScriptLine → List ℕ
 line_text_by stepping history state line = events_text history (led_by stepping state line).events
 
+-- the report of a run: the lines of its events, and the last ones
 abbrev pub report_of : {S : Type 0} → Bool → ToldOf S → List ℕ
 report_of history t = events_text history t.events ++ closing_text t.state

@@ -12,6 +12,7 @@ pub record Seat : Type 0 where
 abbrev pub empty_seat : Seat
 empty_seat = record { fed = []; consumed = 0; requests = 0; entered = 0; sent = 0; closed = false }
 
+-- the bytes that were fed and that no request took
 abbrev pub waiting : Seat → List ℕ
 waiting seat = drop seat.consumed seat.fed
 

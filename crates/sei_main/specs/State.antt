@@ -88,6 +88,7 @@ module _ {S : Type 0} (step : Stepping S) where
   round_from_by zero c s = idle s
   round_from_by (suc count) c s = behind (step s c) (round_from_by count (c + 1))
 
+  -- a round: one step of each connection, in rising order
   abbrev pub round_by : StateOf S → WentOf S
   round_by s = round_from_by (length s.seats) 0 s
 
@@ -100,6 +101,7 @@ module _ {S : Type 0} (step : Stepping S) where
   abbrev pub drained_by : StateOf S → WentOf S
   drained_by s = rounds_by (bytes_waiting s.seats + 1) s
 
+  -- what a line of a script does, by its effect
   abbrev pub done_by : StateOf S → Effect → WentOf S
   done_by s (Opens c mode) = idle (record s { seats = s.seats ++ empty_seat ∷ [] })
   done_by s (Feeds c bytes) = idle (fed s c bytes)

@@ -13,6 +13,7 @@ use Rattle.sei_main.specs.Tables.{Tables}
 abbrev pub sealed_for : List ℕ → ℕ → Numbers → Sealed
 sealed_for text nth numbers = record { number = numbers.request; nth = sealed nth; code = message_code numbers.request text; answer = numbers.reply }
 
+-- the call is sealed; what its course leaves and did is the answer, with the strikes that its core counts at the end
 abbrev pub table_answering : Answering Tables
 table_answering t a =
     let c = course_of t.geometry a.text a.now t.buckets (sealed_for a.text a.nth a.numbers) a.plan in

@@ -1,8 +1,8 @@
 //! Scripts with their reports. A case is a line `=== name`, the script, a line `--- status`, with `history`
-//! behind it where the entries are wanted, and the report.
+//! after it if the entries are wanted, and the report.
 
 /// How many cases there are.
-pub const COUNT: u64 = 36;
+pub const COUNT: u64 = 41;
 
 pub const CASES: &str = r"=== a set and a get
 geometry 1 1 3
@@ -38,6 +38,84 @@ sent 0 NOT_FOUND\r\n
 sent 0 CLIENT_ERROR bad command line format\r\n
 took 0 5
 end ok
+=== a compare and set
+geometry 1 1 3
+open 0 plain
+say 0 set a 0 0 1\r\nx\r\ngets a\r\ntouch a 0\r\ncas a 0 0 1 1\r\ny\r\ncas a 0 0 1 1\r\nz\r\ncas q 0 0 1 1\r\nz\r\ngets a\r\n
+drain
+--- 0
+sent 0 STORED\r\n
+sent 0 VALUE a 0 1 1\r\nx\r\nEND\r\n
+sent 0 TOUCHED\r\n
+sent 0 STORED\r\n
+sent 0 EXISTS\r\n
+sent 0 NOT_FOUND\r\n
+sent 0 VALUE a 0 1 2\r\ny\r\nEND\r\n
+took 0 7
+end ok
+=== an add and a replace
+geometry 1 2 3
+open 0 plain
+say 0 replace a 1 0 1\r\nx\r\nadd a 2 0 1\r\ny\r\nadd a 3 0 1\r\nz\r\nreplace a 4 0 1\r\nw\r\nget a\r\n
+drain
+--- 0
+sent 0 NOT_STORED\r\n
+sent 0 STORED\r\n
+sent 0 NOT_STORED\r\n
+sent 0 STORED\r\n
+sent 0 VALUE a 4 1\r\nw\r\nEND\r\n
+took 0 5
+end ok
+=== a get and touch
+geometry 1 2 3
+open 0 plain
+clock 100
+say 0 set a 0 10 1\r\nx\r\ngat 50 a b\r\ngats 0 a\r\ntouch b 5\r\ntouch a 20\r\n
+drain
+clock 119
+say 0 get a\r\n
+drain
+clock 120
+say 0 get a\r\ngat -1 a\r\n
+drain
+--- 0
+sent 0 STORED\r\n
+sent 0 VALUE a 0 1\r\nx\r\n
+sent 0 END\r\n
+sent 0 VALUE a 0 1 1\r\nx\r\nEND\r\n
+sent 0 NOT_FOUND\r\n
+sent 0 TOUCHED\r\n
+sent 0 VALUE a 0 1\r\nx\r\nEND\r\n
+sent 0 END\r\n
+sent 0 END\r\n
+took 0 9
+end ok
+=== a flush of two buckets
+geometry 2 1 3
+open 0 plain
+say 0 set a 0 0 1\r\nx\r\nset b 0 0 1\r\ny\r\nflush_all\r\nget a b\r\nflush_all 0 noreply\r\nflush_all 1\r\nset a 0 0 1\r\nz\r\n
+drain
+--- 0
+sent 0 STORED\r\n
+sent 0 STORED\r\n
+sent 0 OK\r\n
+sent 0 END\r\n
+sent 0 CLIENT_ERROR bad command line format\r\n
+sent 0 STORED\r\n
+took 0 6
+end ok
+=== a struck compare and set
+geometry 1 1 3
+open 0 plain
+fault 0 1 second store 1 write 1
+say 0 set a 0 0 1\r\nx\r\ncas a 0 0 1 1\r\ny\r\n
+drain
+--- 3
+sent 0 STORED\r\n
+abort 0 1 verify differs 0
+took 0 1
+left 0 18
+end aborted
 === a value over the limit
 geometry 1 1 3
 open 0 plain
@@ -387,7 +465,7 @@ end aborted
 === no bucket is lent where a slot is asked for
 geometry 1 1 3
 open 0 plain
-fault 0 0 take at 0 jump first 262
+fault 0 0 take at 0 jump first 953
 say 0 set a 0 0 1\r\nx\r\n
 drain
 --- 3

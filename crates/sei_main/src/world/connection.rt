@@ -1,10 +1,14 @@
 //! A connection: its bytes, and how many requests, calls and messages it had.
-ghost use Rattle.std.specs.Prelude.{◌≡◌, ◌+◌, ◌<◌, ◌≤◌, ◌^◌, length, false, OnOk, OnErr};
+ghost use Rattle.std.specs.Prelude.{◌≡◌, ◌+◌, ◌*◌, ◌<◌, ◌≤◌, ◌^◌, length, false, OnOk, OnErr};
 ghost use Rattle.sei_main.specs.Seats.{Seat, empty_seat, waiting, fed_more, taken_more, stopped};
 
 use sei_code::Memory;
-use std::alloc::Global;
+use std::alloc::{AllocError, Global};
 use std::marker::Model;
+
+/// How many bytes a connection can be fed. A request has at most 64 calls for each of its bytes, so
+/// their number has 64 bits.
+const MOST_FED: usize = 1 << 32;
 
 /// A connection: the bytes that were fed to it, how many of them requests took, how many requests that
 /// were, and how many calls were answered and messages sent.
@@ -20,14 +24,14 @@ pub struct Connection {
 }
 
 impl Model for Connection {
-    ghost use Rattle.std.specs.Prelude.{◌≡◌, ◌≤◌, length, false};
+    ghost use Rattle.std.specs.Prelude.{◌≡◌, ◌≤◌, ◌*◌, ◌^◌, length, false};
     ghost use Rattle.sei_main.specs.Seats.{Seat};
 
     ghost Value = { Seat };
 
     ghost view = { λ c. record { fed = c.fed.items; consumed = c.consumed; requests = c.requests; entered = c.entered; sent = c.sent; closed = c.closed } };
 
-    ghost invariant = { λ c. (c.consumed ≤ length c.fed.items) × (c.sent ≤ length c.fed.items) × (c.closed ≡ false → (c.entered ≤ c.consumed) × (c.sent ≤ c.consumed)) };
+    ghost invariant = { λ c. (c.consumed ≤ length c.fed.items) × (length c.fed.items ≤ 2 ^ 32) × (c.sent ≤ 64 * length c.fed.items) × (c.closed ≡ false → (c.entered ≤ 64 * c.consumed) × (c.sent ≤ 64 * c.consumed)) };
 }
 
 impl Connection {
@@ -44,10 +48,14 @@ impl Connection {
         }
     }
 
+    /// Feeds bytes. The error is that memory ran out, as it does above 2^32 bytes in all.
     pub fn feed(&mut self, bytes: &[u8]) -> Result<(), Memory>
         ensures ok { OnOk result (self.new ≡ fed_more self.old bytes.now) }
         ensures err { OnErr result (self.new ≡ self.old) }
     {
+        if bytes.len() > MOST_FED - self.fed.len() {
+            return Err(AllocError);
+        }
         self.fed.extend_from_slice(bytes)
     }
 
@@ -68,7 +76,7 @@ impl Connection {
     pub fn entered(&self) -> u64
         requires open { self.now.closed ≡ false }
         ensures entered { result ≡ self.now.entered }
-        ensures room { result + length (waiting self.now) < 2 ^ 64 }
+        ensures room { result + 64 * length (waiting self.now) < 2 ^ 64 }
     {
         self.entered
     }
@@ -91,7 +99,7 @@ impl Connection {
     pub fn took(&mut self, size: usize, calls: u64, messages: u64, closes: bool)
         requires open { self.old.closed ≡ false }
         requires whole { size ≤ length (waiting self.old) }
-        requires calls { calls ≤ size }
+        requires calls { calls ≤ 64 * size }
         requires messages { messages ≤ calls }
         ensures { self.new ≡ taken_more self.old size calls messages closes }
     {
@@ -108,7 +116,7 @@ impl Connection {
     /// request. Nothing more of the connection is answered.
     pub fn stop(&mut self, messages: u64)
         requires open { self.old.closed ≡ false }
-        requires messages { messages ≤ length (waiting self.old) }
+        requires messages { messages ≤ 64 * length (waiting self.old) }
         ensures { self.new ≡ stopped self.old messages }
     {
         self.sent += messages;

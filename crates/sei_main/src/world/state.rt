@@ -1,5 +1,5 @@
 //! The world of a script: what each line does, and what is written as it happens.
-ghost use Rattle.std.specs.Prelude.{◌≡◌, ◌+◌, ◌<◌, ◌≤◌, [], ◌^◌, false, length, OnOk, IfOk, slice_set, slice_index_or};
+ghost use Rattle.std.specs.Prelude.{◌≡◌, ◌+◌, ◌*◌, ◌<◌, ◌≤◌, [], ◌^◌, false, length, OnOk, IfOk, slice_set, slice_index_or};
 ghost use Rattle.std.specs.Io.KnownBytes.{append_known};
 ghost use Rattle.sei_outside.specs.Faults.{Rose};
 ghost use Rattle.sei_outside.specs.Bytes.{WrotePart};
@@ -215,7 +215,8 @@ fn answer_calls<S: Service, K: Sink>(
 ) -> Result<Answered, Stop>
     requires reading { IsReading (S.limits server.old) text.now request.now }
     requires some { 0 < length text.now }
-    requires few { asking.first + length text.now < 2 ^ 64 }
+    requires buckets { (S.limits server.old).buckets ≤ 64 }
+    requires few { asking.first + 64 * length text.now < 2 ^ 64 }
     ensures server { OnOk result (server.new ≡ (answers_by S.answering (asking_of asking text.now plans.now) 0 0 server.old (calls_at text.now request.now)).server) }
     ensures answered { IfOk result (λ answered. IsResultOf answered (answers_by S.answering (asking_of asking text.now plans.now) 0 0 server.old (calls_at text.now request.now))) }
     ensures few { IfOk result (λ answered. answered.messages ≤ length (calls_at text.now request.now)) }
@@ -265,7 +266,8 @@ fn take_request<S: Service, K: Sink>(
     request: &Request,
     sink: &mut K,
 ) -> Result<bool, Stop>
-    requires { IsNextOf (S.limits server.old) connection.old size request.now }
+    requires next { IsNextOf (S.limits server.old) connection.old size request.now }
+    requires buckets { (S.limits server.old).buckets ≤ 64 }
     ensures server { OnOk result (server.new ≡ (answers_to S.answering now plans.now c server.old connection.old size request.now).server) }
     ensures connection { OnOk result (connection.new ≡ seat_behind S.answering now plans.now c server.old connection.old size request.now) }
     ensures aborted { IfOk result (λ aborted. aborted ≡ is_abort (answers_to S.answering now plans.now c server.old connection.old size request.now).state) }

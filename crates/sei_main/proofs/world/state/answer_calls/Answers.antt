@@ -32,7 +32,7 @@ answer_call-requires-clause-call g c =
     (c.in-Some.ensures.value ∙ ap (slice_get (calls_at c.args.text.now c.args.request.now)) c.loop-nth.invariant.place))
 
 pub answer_call-requires-clause-few : goal.answer_call-requires-clause-few
-answer_call-requires-clause-few g c = omega (arith, c.loop-nth.invariant.end, few_calls c.args.text.now c.args.request.now c.requires.some, c.requires.few)
+answer_call-requires-clause-few g c = omega (arith, c.loop-nth.invariant.end, few_calls c.args.text.now c.args.request.now c.requires.some (omega (arith, c.requires.reading.buckets, c.requires.buckets)), c.requires.few)
 
 pub returns-in_err-answered-clause-part : goal.returns-in_err-answered-clause-part
 returns-in_err-answered-clause-part g c =
