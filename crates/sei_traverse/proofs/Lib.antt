@@ -3,6 +3,7 @@ pub mod PassLaws
 pub mod PhaseLaws
 pub mod NoteLaws
 pub mod TimeLaws
+pub mod TimedLaws
 pub mod LogLaws
 pub mod Branches
 pub mod Closes
@@ -43,6 +44,7 @@ pub mod ReadingLaws
 pub mod TrustLaws
 pub mod StepsBound
 pub mod NotingLaws
+pub mod RefusingLaws
 pub mod CountLaws
 pub mod WantingLaws
 pub mod EnteredLaws

@@ -164,7 +164,8 @@ record Untold (stage : ℕ) (notes : Notes) : Type 0 where
   untimed : stage < timed → notes.now ≡ None
   unslotted : stage < slotted → notes.slot ≡ None
 
-only_so : (b : Bool) (n s : ℕ) → only b n ≡ Some s → (b ≡ true) × (n ≡ s)
+-- a stage that only comes so
+pub only_so : (b : Bool) (n s : ℕ) → only b n ≡ Some s → (b ≡ true) × (n ≡ s)
 only_so true n s e = (refl, cc)
 only_so false n s e = absurd cc
 

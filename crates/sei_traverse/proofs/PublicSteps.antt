@@ -6,7 +6,7 @@ use Rattle.sei_words.specs.LentBucket.{words_of, bucket_of}
 use Rattle.sei_stmt.specs.Handling.{Behavior}
 use Rattle.sei_traverse.specs.declared.turned.State.{State}
 use Rattle.sei_traverse.specs.Given.{given_of}
-use Rattle.sei_traverse.specs.Promises.{KeepsBound, KeepsRoom, KeepsTime, KeepsOnWay, KeepsIsolated, RefusesUnfit, turned_at, OfEachStep}
+use Rattle.sei_traverse.specs.Promises.{KeepsBound, KeepsRoom, KeepsTime, KeepsOnWay, KeepsIsolated, RefusesUnfit, RefusedAtGuard, turned_at, OfEachStep}
 use Rattle.sei_traverse.specs.declared.turned.Turned.{Turned}
 use Rattle.sei_traverse.specs.declared.turned.Want.{Want}
 use Rattle.sei_traverse.specs.Running.{On, StepsTo, Makes}
@@ -15,6 +15,7 @@ use Rattle.sei_traverse.specs.State.{IsTraversal}
 use Rattle.sei_traverse.proofs.Isolated.{isolates_one}
 use Rattle.sei_traverse.proofs.NotingLaws.{notes_time}
 use Rattle.sei_traverse.proofs.Onward.{stays_on_way_given, refused_run}
+use Rattle.sei_traverse.proofs.RefusingLaws.{refused_at_guard}
 use Rattle.sei_traverse.proofs.StepsBound.{steps_after_turned, room_left_turned}
 
 module _ {S : Type 0} (gives : S → (q : Question) → Answer q → S → Type 0) (counts : S → Counts)
@@ -54,6 +55,11 @@ module _ {S : Type 0} (gives : S → (q : Question) → Answer q → S → Type 
   pub step_notes : KeepsTime told x y
   step_notes =
       notes_time told gives (given_of behavior input x.traversal.space (bucket_of x.lent)) x.traversal.workspace y.traversal.workspace (words_of x.lent) (words_of y.lent) state x.core y.core step.turned
+
+  -- it is refused only at Guard
+  pub step_at_guard : RefusedAtGuard x (turned_at y state)
+  step_at_guard =
+      refused_at_guard gives told (given_of behavior input x.traversal.space (bucket_of x.lent)) x.traversal.workspace y.traversal.workspace (words_of x.lent) (words_of y.lent) state x.core y.core step.turned
 
 -- what holds of each step of the definition, holds of each step that the code makes
 pub of_made : {S : Type 0} (gives : S → (q : Question) → Answer q → S → Type 0) (counts : S → Counts) (Holds : Option ℕ → Behavior → List ℕ → On S → On S → Turned → Type 0) →

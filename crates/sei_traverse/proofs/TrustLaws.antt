@@ -62,7 +62,7 @@ module _ {B : Type 0} (space : List ℕ → ℕ → Space) (Before Stands : List
   serves_noted : (fit : PassesGuard e) (time slot : ℕ) → time < 2 ^ 64 →
       Serves (second_setting e) (λ ws. Stands ws (answer e.input (nth_of fit).0 h.held time).0) (answer e.input (nth_of fit).0 h.held time).1 (renoted (notes_of time slot) (first_start e))
   serves_noted fit time slot small =
-      serves_at space Before Stands answer e h.handler.sound h.bytes (nth_of fit).0 (parsed_at fit) (h.has (nth_of fit).0 (nth_of fit).1) (second_setting e)
+      serves_at space Before Stands answer e h.handler.sound h.bytes (nth_of fit).0 (parsed_at fit) (h.space (nth_of fit).0 (nth_of fit).1) (second_setting e)
       (record { statements_are = refl; rendered_are = refl; budget_is = refl; slots_are = refl; free_are = refl })
       (record { intact = fit.intact; parsed = fit.called; lent = refl }) h.held h.begins time small (notes_of time slot) (ByNotes refl slot refl)
 
@@ -122,7 +122,7 @@ module _ {B : Type 0} (space : List ℕ → ℕ → Space) (Before Stands : List
     called_has = called_has;
     bucket = λ fit. h.handler.there e.input (nth_of fit).0 e.call (parsed_at fit);
     clock = h.clock;
-    ends = λ fit now small. ends_at space Before Stands answer e h.handler.sound h.bytes (nth_of fit).0 (parsed_at fit) (h.has (nth_of fit).0 (nth_of fit).1) fit.intact fit.called h.held h.begins now small;
+    ends = λ fit now small. ends_at space Before Stands answer e h.handler.sound h.bytes (nth_of fit).0 (parsed_at fit) (h.space (nth_of fit).0 (nth_of fit).1) fit.intact fit.called h.held h.begins now small;
     reads = reads;
   }
 

@@ -1,13 +1,13 @@
 -- Laws of traversals that are on their way.
-use Rattle.std.proofs.Common.{◌≡◌, ℕ, ◌+◌, ◌*◌, ◌-◌, ◌^◌, ◌<◌, ◌≤◌, List, Option, Some, None, refl, sym, ap, subst, arith}
+use Rattle.std.proofs.Common.{◌≡◌, ℕ, ◌+◌, ◌*◌, ◌-◌, ◌^◌, ◌<◌, ◌≤◌, List, Option, Some, None, refl, sym, ap, ◌∙◌, subst, arith}
+use Rattle.sei_code.specs.Coded.{sealed}
 use Rattle.sei_fault.specs.Counts.{Counts}
 use Rattle.sei_fault.specs.declared.place.Phase.{Phase}
 use Rattle.sei_fault.specs.declared.place.Phase.TheVariants.{First, Give, Send, Done}
 use Rattle.sei_pass.specs.State.{PassState}
 use Rattle.sei_log.specs.declared.notes.Notes.{Notes}
-use Rattle.sei_stmt.specs.Machine.{Machine, After}
+use Rattle.sei_stmt.specs.Machine.{Machine}
 use Rattle.sei_traverse.specs.declared.workspace.Workspace.{Workspace}
-use Rattle.sei_traverse.specs.Comes.{Agrees}
 use Rattle.sei_traverse.specs.CallContext.{CallContext, IsFitContext, Whole, first_setting, first_start}
 use Rattle.sei_traverse.specs.OnWay.{IsClean, OnWay, AtEnd}
 use Rattle.sei_traverse.specs.Served.{HasReply, IsServed}
@@ -15,7 +15,7 @@ use Rattle.sei_traverse.specs.State.{TraversalState, begun_traversal}
 use Rattle.sei_traverse.specs.Unstruck.{SecondIsDone, CleanIn, InGive, InSend, InDone, HasOutput}
 use Rattle.sei_traverse.proofs.EdgeActs.{lends}
 use Rattle.sei_traverse.proofs.Settled.{bounded, bounded_end}
-use Rattle.sei_traverse.proofs.TimeLaws.{agrees_behind}
+use Rattle.sei_traverse.proofs.TimedLaws.{time_is_noted}
 
 pub way_begins : (e : CallContext) (c : Counts) → OnWay e (begun_traversal e.space e.sealed) None c c
 way_begins e c = record {
@@ -74,11 +74,10 @@ end_ends e t begin now way u = let c = way.clean u in bounded_end e t.workspace 
 reply_is : (e : CallContext) (w : Workspace) (end : Machine) → SecondIsDone e w end → w.second.bytes.items ≡ end.bytes.items
 reply_is e w end h = ap (λ (p : PassState). p.bytes.items) h.second
 
--- where a whole first pass noted a time, it is the time of the run
-by_noted : (e : CallContext) (time made : ℕ) (end : Machine) (notes : Notes) → Whole e time made end → notes ≡ end.notes → Agrees notes.now time
-by_noted e time made end notes whole is =
-    subst (λ (n : Notes). Agrees n.now time) (sym is)
-    (subst (λ (x : After). Agrees x.machine.notes.now time) whole.run.halts (agrees_behind (first_setting e) refl (first_start e) time made whole.small whole.small))
+-- a whole first pass has noted its time
+whole_noted : (e : CallContext) (time made : ℕ) (end : Machine) (notes : Notes) → Whole e time made end → notes ≡ end.notes → notes.now ≡ Some (sealed time)
+whole_noted e time made end notes whole is =
+    ap (λ (n : Notes). n.now) is ∙ time_is_noted (first_setting e) refl time (first_start e) made end whole.run whole.ordered
 
 has_reply : (e : CallContext) (t : TraversalState) (begin now : Counts) (time made asked : ℕ) (end : Machine) → HasOutput e t.workspace time made end asked →
     (now.asked < 2 ^ 128 - 1 → begin.asked + asked ≤ now.asked) → HasReply e t begin now
@@ -87,7 +86,7 @@ has_reply e t begin now time made asked end a counted = record {
   made = made;
   end = end;
   whole = a.whole;
-  noted = by_noted e time made end t.workspace.notes a.whole a.notes;
+  noted = whole_noted e time made end t.workspace.notes a.whole a.notes;
   reply = reply_is e t.workspace end a.second;
   wire = a.copy;
   twice = λ m. omega (arith, counted m, a.questions);
@@ -103,7 +102,7 @@ way_entered e t lent begin now is way u =
         made = i.made;
         end = i.end;
         whole = i.both.whole;
-        noted = by_noted e i.time i.made i.end t.workspace.notes i.both.whole i.both.first.notes;
+        noted = whole_noted e i.time i.made i.end t.workspace.notes i.both.whole i.both.first.notes;
         reply = reply_is e t.workspace i.end i.both.second;
         wire = i.copy;
         twice = λ m. omega (arith, c.counted m, i.both.questions);

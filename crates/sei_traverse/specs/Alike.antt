@@ -2,6 +2,7 @@
 use Rattle.std.specs.Prelude.{◌≡◌, ℕ, List, Option, Some, None, ⊤, slice_get}
 use Rattle.sei_log.specs.declared.log.Change.{Change}
 
+-- two changes with the same address, old word and new word
 pub record Alike (c d : Change) : Type 0 where
   pub address : c.address ≡ d.address
   pub was : c.was ≡ d.was

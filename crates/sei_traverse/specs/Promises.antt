@@ -2,6 +2,7 @@
 use Rattle.std.specs.Prelude.{◌≡◌, ℕ, ◌+◌, ◌≤◌, List, [], ◌∷◌, ◌++◌, Option, Some, None, replicate}
 use Rattle.sei_fault.specs.Counts.{Counts}
 use Rattle.sei_fault.specs.Question.{Question, Answer}
+use Rattle.sei_fault.specs.declared.place.Phase.TheVariants.{Guard}
 use Rattle.sei_stmt.specs.Handling.{Behavior}
 use Rattle.sei_words.specs.Words.{BucketWords}
 use Rattle.sei_traverse.specs.declared.turned.State.{State}
@@ -74,6 +75,10 @@ KeepsLending counts told behavior input n x z t = IfIsolated counts told behavio
 abbrev pub RefusesUnfit : {S : Type 0} → (S → Counts) → Behavior → List ℕ → On S → On S → Turned → Type 0
 RefusesUnfit counts behavior input x y t =
     IsUnfit (given_of behavior input x.traversal.space None) x.traversal.workspace → (counts y.core).struck ≡ (counts x.core).struck → t.state ≡ Refused
+
+-- a step that is refused is one at Guard, whatever the core answers and however often it strikes
+abbrev pub RefusedAtGuard : {S : Type 0} → On S → Turned → Type 0
+RefusedAtGuard x t = t.state ≡ Refused → x.traversal.workspace.place.phase ≡ Guard
 
 -- how a step of the definition turned out that came to y
 abbrev pub turned_at : {S : Type 0} → On S → State → Turned

@@ -13,12 +13,12 @@ use Rattle.sei_traverse.specs.Struck.{IsHonestResult}
 
 -- a sound handler serves the call context: the input is bytes, its call is the sealed one and its space that of the call, if there
 -- is one, the clock tells numbers of 64 bits, if it tells them, and the words that were taken are some on which a run starts
-pub record IsServedBy {B : Type 0} (space : List ℕ → ℕ → Space) (Before Stands : List ℕ → B → Type 0) (answer : List ℕ → ℕ → B → ℕ → B × List ℕ)
+pub record IsServedBy {B : Type 0} (space_of : List ℕ → ℕ → Space) (Before Stands : List ℕ → B → Type 0) (answer : List ℕ → ℕ → B → ℕ → B × List ℕ)
     (e : CallContext) : Type 0 where
-  pub handler : IsSoundHandler e.behavior space e.space.geometry.buckets Before Stands answer
+  pub handler : IsSoundHandler e.behavior space_of e.space.geometry.buckets Before Stands answer
   pub bytes : All (λ b. b < 256) e.input
   pub call : (p : Parsed) → call_of (given_in e) e.sealed ≡ Some p → e.call ≡ p
-  pub has : (nth : ℕ) → read_of e.sealed.nth ≡ Some nth → space e.input nth ≡ space_in e.space
+  pub space : (nth : ℕ) → read_of e.sealed.nth ≡ Some nth → space_of e.input nth ≡ space_in e.space
   pub clock : TellsTime e.clock
   pub held : B
   pub begins : Before e.taken held

@@ -23,6 +23,7 @@ pub record TraversalState : Type 0 where
   pub steps : ℕ
   pub running : Bool
 
+-- its workspace is as every workspace is, and of its space
 pub record IsTraversal (t : TraversalState) : Type 0 where
   pub workspace : IsWorkspace t.workspace
   pub space : t.workspace.first.space ≡ t.space

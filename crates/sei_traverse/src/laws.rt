@@ -12,7 +12,7 @@ ghost use Rattle.sei_traverse.specs.CallContext.{CallContext, IsFitContext};
 ghost use Rattle.sei_traverse.specs.FaultInvariant.{FaultInvariant};
 ghost use Rattle.sei_traverse.specs.OnWay.{lent_words, OnWay, AtEnd};
 ghost use Rattle.sei_traverse.specs.Phases.{reply_of};
-ghost use Rattle.sei_traverse.specs.Promises.{KeepsBound, KeepsRoom, KeepsTime, KeepsOnWay, LastOnWay, KeepsIsolated, LastIsolated, KeepsSteps, KeepsLending, RefusesUnfit};
+ghost use Rattle.sei_traverse.specs.Promises.{KeepsBound, KeepsRoom, KeepsTime, KeepsOnWay, LastOnWay, KeepsIsolated, LastIsolated, KeepsSteps, KeepsLending, RefusesUnfit, RefusedAtGuard};
 ghost use Rattle.sei_traverse.specs.Promises.{OfEachStep, OfEachRun, EachRunKeeps};
 ghost use Rattle.sei_traverse.specs.Running.{On, Makes};
 ghost use Rattle.sei_traverse.specs.Served.{IfUnstruckIn, IsServed, HasReply};
@@ -72,6 +72,13 @@ pub fn one_strike_is_isolated<K: Core>()
     ensures on_way { OfEachStep K.gives (KeepsOnWay K.counts) }
     ensures room { OfEachStep K.gives (λ told behavior input x y t. KeepsRoom K.counts x y) }
     ensures refused { OfEachStep K.gives (λ told behavior input x y t. RefusesUnfit K.counts behavior input x y t) }
+{}
+
+/// A traversal is refused only in a step at `Guard`, whatever the core answers and however many strikes
+/// fall. A run of many steps is refused only if its last step is one at `Guard`.
+pub fn refused_only_at_guard<K: Core>()
+    ensures step { OfEachStep K.gives (λ told behavior input x y t. RefusedAtGuard x t) }
+    ensures run { OfEachRun K.gives K.counts (λ told behavior input n x last z t. RefusedAtGuard last t) }
 {}
 
 /// Over all steps of a traversal that are isolated, `Take`, `Enter`, `Give` and `Send` are wanted in this
