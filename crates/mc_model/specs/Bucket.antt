@@ -2,7 +2,8 @@
 use Rattle.std.specs.Prelude.{◌≡◌, ℕ, Bool, ◌||◌, ◌==◌, nat_lt, max, List, [], ◌∷◌, filter, Option, Some, None, if◌then◌else◌}
 use Rattle.std.specs.Str.{bytes_eq}
 
--- expiry: the second since the start of 1970 from which the item is gone, or 0 for never
+-- the flags are a number that is stored and given back. The expiry is the second since the start of 1970 from which the item is
+-- gone, or 0 for never. The cas unique is the number that `gets` shows and `cas` compares
 pub record Item : Type 0 where
   pub flags : ℕ
   pub expiry : ℕ
@@ -19,9 +20,11 @@ pub record Bucket : Type 0 where
   pub moment : ℕ
   pub counter : ℕ
 
+-- no call has come yet
 abbrev pub empty_bucket : Bucket
 empty_bucket = record { items = []; moment = 0; counter = 0 }
 
+-- the item at a key
 abbrev pub lookup : List ℕ → Entries → Option Item
 lookup key [] = None
 lookup key (e ∷ es) = if bytes_eq key e.0 then Some e.1 else lookup key es
@@ -31,13 +34,16 @@ abbrev pub put : List ℕ → Item → Entries → Entries
 put key x [] = (key, x) ∷ []
 put key x (e ∷ es) = if bytes_eq key e.0 then (key, x) ∷ es else e ∷ put key x es
 
+-- the entries without that of the key
 abbrev pub without : List ℕ → Entries → Entries
 without key [] = []
 without key (e ∷ es) = if bytes_eq key e.0 then es else e ∷ without key es
 
+-- an item is live at a moment if its expiry is 0, which is never, or later than the moment
 abbrev pub is_live : ℕ → Item → Bool
 is_live moment x = x.expiry == 0 || nat_lt moment x.expiry
 
+-- the entries whose items are live
 abbrev pub live_entries : ℕ → Entries → Entries
 live_entries moment es = filter (λ e. is_live moment e.1) es
 

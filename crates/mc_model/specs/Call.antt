@@ -47,7 +47,7 @@ pub record Placed : Type 0 where
   pub bucket : ℕ
   pub call : Call
 
--- a key belongs to the bucket of its hash
+-- a key belongs to the bucket whose number is the hash of the key modulo the number of buckets
 abbrev pub bucket_of_key : ℕ → List ℕ → ℕ
 bucket_of_key buckets key = fnv64 key % buckets
 

@@ -19,6 +19,7 @@ abbrev pub left_by_all : Room → Bucket → List (ℕ × Call) → Bucket
 left_by_all room b [] = b
 left_by_all room b (c ∷ cs) = left_by_all room (left_by room b c.0 c.1) cs
 
+-- the reply to a call
 abbrev pub reply_to : Room → Bucket → ℕ → Call → List ℕ
 reply_to room b now c = (answer room b now c).1
 
@@ -30,6 +31,7 @@ moment_in now b = (arrived now b).moment
 abbrev pub found : ℕ → Bucket → List ℕ → Option Item
 found now b key = lookup key (arrived now b).items
 
+-- an item with this expiry is live at the moment
 abbrev pub IsUnexpired : ℕ → ℕ → Type 0
 IsUnexpired expiry moment = (expiry ≡ 0) ⊎ (moment < expiry)
 

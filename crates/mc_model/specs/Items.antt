@@ -24,8 +24,10 @@ next_unique s = (s.counter + 1) % 2 ^ 64
 abbrev pub item_of_call : Seen → Call → Item
 item_of_call s c = record { flags = c.flags; expiry = expiry_of s.moment c.negative c.exptime; unique = next_unique s; value = c.block }
 
+-- another value and a drawn unique; the flags and the expiry stay
 abbrev pub item_with_value : Seen → Item → List ℕ → Item
 item_with_value s x value = record x { value = value; unique = next_unique s }
 
+-- the call's expiry; all else stays, the unique too
 abbrev pub item_with_expiry : Seen → Call → Item → Item
 item_with_expiry s c x = record x { expiry = expiry_of s.moment c.negative c.exptime }

@@ -1,4 +1,5 @@
 -- Numbers as decimal digits spell them.
+-- They have no sign; leading zeros are read.
 use Rattle.std.specs.Prelude.{ℕ, ◌+◌, ◌*◌, ◌-◌, ◌^◌, Bool, ◌&&◌, nat_le, List, [], ◌∷◌, Option, Some, None, length, if◌then◌else◌}
 use Rattle.std.specs.List.{list_all}
 

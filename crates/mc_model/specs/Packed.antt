@@ -18,6 +18,7 @@ word_of xs j =
     let high = ((slice_index xs a * 256 + slice_index xs (a + 1)) * 256 + slice_index xs (a + 2)) * 256 + slice_index xs (a + 3) in
     (((high * 256 + slice_index xs (a + 4)) * 256 + slice_index xs (a + 5)) * 256 + slice_index xs (a + 6)) * 256 + slice_index xs (a + 7)
 
+-- the words of a list of bytes
 abbrev pub pack : List ℕ → List ℕ
 pack xs = map (word_of xs) (range_with_len 0 (words_for (length xs)))
 

@@ -15,17 +15,20 @@ pub record IsValid (g : Geometry) : Type 0 where
   pub some_words : 3 ≤ g.value_words
   pub few_words : g.value_words ≤ 1024
 
--- eight bytes a word
+-- what a bucket has room for: an item in each slot, and eight bytes in each value word
 abbrev pub room_of : Geometry → Room
 room_of g = record { slots = g.slots; value_bytes = 8 * g.value_words }
 
+-- its buckets, all with the same room
 pub record Server : Type 0 where
   pub room : Room
   pub buckets : List Bucket
 
+-- as many empty buckets as the geometry says
 abbrev pub empty_server : Geometry → Server
 empty_server g = record { room = room_of g; buckets = replicate g.buckets empty_bucket }
 
+-- the bucket with a number; one that is not there is empty
 abbrev pub bucket_at : Server → ℕ → Bucket
 bucket_at s b = slice_index_or s.buckets b empty_bucket
 

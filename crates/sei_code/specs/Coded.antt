@@ -6,6 +6,7 @@ use Rattle.sei_code.specs.declared.coded.Coded.{Coded}
 abbrev pub complement : ℕ → ℕ
 complement v = 2 ^ 64 - 1 - v
 
+-- a word with its complement as its check. If the word alone was altered, or the check alone, it does not read
 abbrev pub sealed : ℕ → Coded
 sealed v = record { value = v; check = complement v }
 

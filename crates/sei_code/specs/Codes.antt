@@ -1,4 +1,5 @@
 -- The codes of byte lists: FNV-1a with 64 bits (Fowler, Noll and Vo), and the code of a numbered message.
+-- What a message code covers is this project's own.
 use Rattle.std.specs.Prelude.{◌≡◌, ◌≢◌, ℕ, ◌*◌, ◌%◌, ◌^◌, ◌<◌, List, ◌++◌, fold, length, slice_index, bit_xor}
 use Rattle.std.specs.Int.{w64, to_be_bytes}
 

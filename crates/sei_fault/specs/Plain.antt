@@ -6,12 +6,15 @@ use Rattle.sei_fault.specs.Counts.Answered.{Honest}
 use Rattle.sei_fault.specs.Question.{Question, Answer, honestly_to}
 use Rattle.sei_fault.specs.Scripted.{function_core}
 
+-- this number of questions, no strike, and none that can fall
 abbrev pub plain_counts : ℕ → Counts
 plain_counts asked = record { asked = asked; struck = 0; room = Some 0 }
 
+-- each answer is honest
 abbrev pub plain_answer : ℕ → (q : Question) → Answer q
 plain_answer asked q = honestly_to q
 
+-- one question more
 abbrev pub plain_next : ℕ → Question → ℕ
 plain_next asked q = counted asked
 

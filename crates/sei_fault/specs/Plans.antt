@@ -46,8 +46,9 @@ none_yet = record { value = 0 }
 abbrev pub one_value_more : StepCounts → StepCounts
 one_value_more so_far = record so_far { value = min (so_far.value + 1) (2 ^ 64 - 1) }
 
--- what a fault of this kind answers in its step, if it alters the answer. The counts are of the answers before in the
--- step, of which none was altered
+-- what a fault of this kind answers in its step, if it alters the answer: after these counted answers of
+-- the step, of which none was altered. A mask of 0 alters nothing, nor does a jump to the place to which
+-- the step leads anyway
 abbrev pub fault : Kind → StepCounts → (q : Question) → Option (Answer q)
 fault (Read nth mask) so_far (Value h) = if so_far.value == nth && not (mask == 0) then Some (bit_xor h mask) else None
 fault (Write mask) so_far (Written h) = if mask == 0 then None else Some (bit_xor h mask)

@@ -1,4 +1,6 @@
 -- The questions that a core is asked, and their answers. A further question is one more case of each of the three.
+-- The kinds of fault are those of "Scalable Error Isolation for Distributed Systems" (NSDI 2015). That a step asks for each of
+-- its effects is this project's own form of them.
 use Rattle.std.specs.Prelude.{ℕ, Bool}
 use Rattle.sei_fault.specs.declared.place.Place.{Place}
 use Rattle.sei_fault.specs.declared.place.Site.{Site}

@@ -16,6 +16,7 @@ pub record ScriptState : Type 0 where
   pub plan : Option Planned
   pub stage : Stage
 
+-- a plan that waits, and no question yet
 abbrev pub script_begin : Option Planned → ScriptState
 script_begin plan = record { asked = 0; plan = plan; stage = Waiting }
 
@@ -41,9 +42,11 @@ abbrev pub altered_in : Option Planned → Stage → (q : Question) → Option (
 altered_in (Some p) (Armed so_far) q = fault p.kind so_far q
 altered_in plan stage q = None
 
+-- the same, once the question has come
 abbrev pub altered : ScriptState → (q : Question) → Option (Answer q)
 altered s q = altered_in s.plan (stage_at s.plan s.stage q) q
 
+-- what the plan answers, and else the honest answer
 abbrev pub script_answer : ScriptState → (q : Question) → Answer q
 script_answer s q = unwrap_or (altered s q) (honestly_to q)
 
@@ -62,6 +65,7 @@ abbrev pub stage_after : Stage → Bool → Question → Stage
 stage_after stage is_altered (Value h) = read_more (settled stage is_altered)
 stage_after stage is_altered q = settled stage is_altered
 
+-- one question more, and the stage after it
 abbrev pub script_next : ScriptState → Question → ScriptState
 script_next s q = record {
   asked = counted s.asked;

@@ -31,6 +31,7 @@ undo_at words (Some c) = undo_tree words c
 abbrev pub undo_nth : List Change → ℕ → List ℕ → Tree Undone
 undo_nth log n words = undo_at words (slice_get log (length log - 1 - n))
 
+-- what an undoing came to, by the words that it left and the answer of the call
 abbrev pub undone_of : List ℕ → Result (Unit {0}) AbortCause → Undone
 undone_of words (Ok u) = record { words = words; cause = None }
 undone_of words (Err cause) = record { words = words; cause = Some cause }

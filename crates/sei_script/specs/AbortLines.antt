@@ -6,6 +6,7 @@ use Rattle.sei_fault.specs.declared.place.Phase.TheVariants.{Guard, Take, First,
 use Rattle.sei_fault.specs.declared.cause.AbortCause.{AbortCause}
 use Rattle.sei_fault.specs.declared.cause.AbortCause.TheVariants.{Gate, Code, Range, Table, Budget, LogFull, OutFull, Output, Bucket, Notes, Differs, Reply, Wire}
 
+-- the word of a phase, in reports and in scripts
 abbrev pub phase_text : Phase → List ℕ
 phase_text Guard = codes "guard"
 phase_text Take = codes "take"
@@ -19,6 +20,7 @@ phase_text Give = codes "give"
 phase_text Send = codes "send"
 phase_text Done = codes "done"
 
+-- the words of the cause of an abort
 abbrev pub cause_text : AbortCause → List ℕ
 cause_text (Gate done) = codes "gate " ++ decimal done
 cause_text Code = codes "code"

@@ -59,6 +59,7 @@ unescaped text = unescaped_from Plain text
 abbrev pub hex_digit : ℕ → ℕ
 hex_digit n = if nat_lt n 10 then n + 48 else n + 87
 
+-- how a byte is printed: as itself from 32 to 126, but for the backslash; all others as an escape
 abbrev pub escape_of : ℕ → List ℕ
 escape_of b =
     if b == 13 then 92 ∷ 114 ∷ []

@@ -8,7 +8,8 @@ byte_before None low bytes = None
 byte_before (Some high) None bytes = None
 byte_before (Some high) (Some low) bytes = joined ((16 * high + low) ∷ []) bytes
 
--- the bytes that a text of digits stands for, two digits each
+-- the bytes that a text of digits stands for, two digits each, the higher one first; none if another byte is among them, or a
+-- digit is left over
 abbrev pub unhexed : List ℕ → Option (List ℕ)
 unhexed [] = Some []
 unhexed (high ∷ []) = None

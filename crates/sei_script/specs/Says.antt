@@ -1,4 +1,5 @@
 -- What a line says, behind the lines that were read before it.
+-- The causes are tested in the order in which the tests stand here.
 use Rattle.std.specs.Prelude.{ℕ, Bool, true, ◌&&◌, List, [], ◌∷◌, nat_lt, nat_le, if◌then◌else◌, ◌==◌, Option, Some, None, codes}
 use Rattle.std.specs.Str.{bytes_eq}
 use Rattle.std.specs.Str.Lines.{strip_carriage_return}

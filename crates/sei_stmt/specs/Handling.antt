@@ -26,6 +26,7 @@ abbrev pub parsed_words : Option Parsed → List ℕ
 parsed_words None = []
 parsed_words (Some p) = p.words
 
+-- the bucket of the call, if there is such a call
 abbrev pub parsed_bucket : Option Parsed → Option ℕ
 parsed_bucket None = None
 parsed_bucket (Some p) = Some p.bucket

@@ -56,6 +56,7 @@ pub record After : Type 0 where
   pub machine : Machine
   pub outcome : Outcome
 
+-- what a register holds
 abbrev pub register : Machine → ℕ → ℕ
 register m r = slice_index m.registers r
 

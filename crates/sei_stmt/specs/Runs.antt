@@ -1,4 +1,5 @@
 -- The honest run of a table: what its statements do with registers and words.
+-- Registers are a function here. A proof ties this run to the trees of the statements, one by one (proofs/TieLaws.antt).
 use Rattle.std.specs.Prelude.{◌≡◌, Bool, ℕ, zero, suc, ◌+◌, ◌-◌, ◌%◌, ◌^◌, ◌≤◌, List, [], ◌∷◌, ◌++◌, length, Option, Some, None, nat_lt, nat_le, nat_eq, if◌then◌else◌, slice_get, slice_index, slice_set}
 use Rattle.sei_fault.specs.declared.cause.AbortCause.{AbortCause}
 use Rattle.sei_fault.specs.declared.cause.AbortCause.TheVariants.{Range, Table, LogFull, OutFull, Output}

@@ -1,4 +1,8 @@
 -- What each statement does: the questions that it asks a core, in order, and what it does with the answers.
+-- A number that is read, from a register, a word, the clock, the search for a slot or a note, is a Value. A number that is written,
+-- to a register, to a word of the bucket or as an output word, is a Written. Of the input words of Parse and of the output bytes of
+-- Render the first one alone is. A Test is asked by the jumps with a condition, by Store, by Alloc in the second pass, and three
+-- times by Parse. Whether there is such a statement, address, room or budget, and whether a note reads, asks nothing.
 use Rattle.std.specs.Prelude.{ℕ, ◌+◌, ◌-◌, ◌%◌, ◌^◌, Bool, false, ◌==◌, nat_lt, nat_le, List, [], ◌∷◌, ◌++◌, length, Option, Some, None, is_some, slice_get, if◌then◌else◌}
 use Rattle.sei_code.specs.Codes.{message_code}
 use Rattle.sei_code.specs.Coded.{sealed, read_of}

@@ -8,6 +8,7 @@ abbrev pub words_of : Option BucketWords → List ℕ
 words_of None = []
 words_of (Some b) = b.words
 
+-- the number of the bucket, if one is lent
 abbrev pub bucket_of : Option BucketWords → Option ℕ
 bucket_of None = None
 bucket_of (Some b) = Some b.bucket
