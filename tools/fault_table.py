@@ -53,7 +53,7 @@ KINDS = [
 ]
 FAULTS = [fault for _, faults in KINDS for fault in faults]
 # The search for steps ends after this many indices in a row at which no step is made.
-MOST_MISSED = 400
+MOST_MISSED = 2000
 
 
 class Load:
